@@ -1,0 +1,196 @@
+// Order by order (L3) messages and snapshots: the values of message.rs. The reader that makes them from bytes is in piece.rt.
+ghost use mathlib.Core.Path.{_≡_};
+ghost use Rattle.message.specs.Values.{inRange, optionalInRange, eventInRange};
+
+pub mod piece; // piece.rt: the reader of pieces
+
+// The side of an order. On a match it is the maker's side.
+pub enum L3Side {
+    Buy,
+    Sell,
+}
+
+// Why an order's lifecycle ended.
+pub enum DoneReason {
+    // Filled: its remaining size is 0.
+    Filled,
+    // Canceled with its remaining size.
+    Canceled,
+}
+
+// Why an order changed.
+pub enum ChangeReason {
+    // Self trade prevention: the size (or the funds of a market order) is reduced.
+    Stp,
+    // An order modification, which may change the price or the size.
+    ModifyOrder,
+}
+
+// An amount in units of 10^-8 that a message may leave out.
+pub enum OptionalAmount {
+    Absent,
+    Given(i64),
+}
+
+// An order id, 128 bits: its 16 bytes in text order, the first eight as the high word.
+pub struct OrderId {
+    pub high: u64,
+    pub low: u64,
+}
+
+// A product, any 16 bytes: the first eight as the high word.
+pub struct ProductId {
+    pub high: u64,
+    pub low: u64,
+}
+
+// One event of the feed. Prices and sizes are in units of 10^-8.
+pub enum L3Event {
+    // The matching engine received an order. It is not on the book.
+    Received {
+        order_id: OrderId,
+        side: L3Side,
+    },
+    // The unfilled part of an order rests on the book.
+    Open {
+        order_id: OrderId,
+        side: L3Side,
+        price: i64,
+        remaining: i64,
+    },
+    // An order left the matching engine, on the book or not. Market orders have neither price nor remaining size.
+    Done {
+        order_id: OrderId,
+        side: L3Side,
+        price: OptionalAmount,
+        reason: DoneReason,
+        remaining: OptionalAmount,
+    },
+    // A trade between a taker and a resting maker, at the maker's side.
+    Match {
+        maker_id: OrderId,
+        taker_id: OrderId,
+        side: L3Side,
+        price: i64,
+        size: i64,
+    },
+    // An order's size, funds or price changed.
+    Change {
+        order_id: OrderId,
+        side: L3Side,
+        reason: ChangeReason,
+        price: OptionalAmount,
+        old_size: OptionalAmount,
+        new_size: OptionalAmount,
+        old_price: OptionalAmount,
+        new_price: OptionalAmount,
+        new_funds: OptionalAmount,
+    },
+    // Any other message type, by number.
+    Unsupported {
+        kind: u32,
+    },
+}
+
+// The optional amounts of a change.
+pub struct ChangeFields {
+    pub price: OptionalAmount,
+    pub old_size: OptionalAmount,
+    pub new_size: OptionalAmount,
+    pub old_price: OptionalAmount,
+    pub new_price: OptionalAmount,
+    pub new_funds: OptionalAmount,
+}
+
+// A sequenced message of one product.
+pub struct L3Message {
+    pub product_id: ProductId,
+    pub sequence: u64,
+    // The feed's time, microseconds since the Unix epoch. Order is given by `sequence` only.
+    pub time_us: u64,
+    pub event: L3Event,
+}
+
+// One resting order of a snapshot.
+pub struct SnapshotOrder {
+    pub order_id: OrderId,
+    pub price: i64,
+    pub size: i64,
+}
+
+// A level 3 snapshot without its orders, which `piece::snapshot_order` reads by place: first the bids, then the asks.
+pub struct L3Snapshot {
+    pub product_id: ProductId,
+    pub sequence: u64,
+    // How many bids, and how many asks.
+    pub bids: usize,
+    pub asks: usize,
+}
+
+// From -10^15 to 10^15.
+pub fn in_range(amount: i64) -> bool
+    ensures { λ r. ⌜ r ≡ inRange amount ⌝ }
+{
+    if -1000000000000000 <= amount {
+        amount <= 1000000000000000
+    } else {
+        false
+    }
+}
+
+fn optional_in_range(amount: OptionalAmount) -> bool
+    ensures { λ r. ⌜ r ≡ optionalInRange amount ⌝ }
+{
+    match amount {
+        OptionalAmount::Absent => true,
+        OptionalAmount::Given(a) => in_range(a),
+    }
+}
+
+// Whether every amount that is present is in range: number 5 is said of a message where this is false.
+pub fn event_in_range(event: L3Event) -> bool
+    ensures { λ r. ⌜ r ≡ eventInRange event ⌝ }
+{
+    match event {
+        L3Event::Received { .. } => true,
+        L3Event::Open {
+            order_id,
+            side,
+            price,
+            remaining,
+        } => in_range(price) & in_range(remaining),
+        L3Event::Done {
+            order_id,
+            side,
+            price,
+            reason,
+            remaining,
+        } => optional_in_range(price) & optional_in_range(remaining),
+        L3Event::Match {
+            maker_id,
+            taker_id,
+            side,
+            price,
+            size,
+        } => in_range(price) & in_range(size),
+        L3Event::Change {
+            order_id,
+            side,
+            reason,
+            price,
+            old_size,
+            new_size,
+            old_price,
+            new_price,
+            new_funds,
+        } => {
+            optional_in_range(price)
+                & optional_in_range(old_size)
+                & optional_in_range(new_size)
+                & optional_in_range(old_price)
+                & optional_in_range(new_price)
+                & optional_in_range(new_funds)
+        }
+        L3Event::Unsupported { .. } => true,
+    }
+}
