@@ -1,8 +1,13 @@
 -- Numbers in bytes. 01, "Rows and pieces": integers are little-endian, amounts two's complement, ids 16 bytes in text order (id high is
 -- the first eight, big-endian).
-use Prim.Native.Nat.{ℕ, zero, suc, _+_, _*_, _/_, _%_}
+use Prim.Native.Nat.{ℕ, zero, suc, _+_, _*_, _/_, _%_, _<_}
 use mathlib.Core.List.{List, [], _∷_, reverse}
 use lib.ListN.{take, drop}
+
+-- every element is a byte
+abbrev pub AllBytes : List ℕ → Type 0
+AllBytes [] = Unit {0}
+AllBytes (b ∷ bs) = (b < 256) × AllBytes bs
 
 -- the k bytes of s from place i on
 unfoldable pub part : List ℕ → ℕ → ℕ → List ℕ

@@ -1,3 +1,5 @@
 pub mod Values
 pub mod Bytes
 pub mod Piece
+pub mod Encode
+pub mod RoundTrip
