@@ -1,0 +1,92 @@
+-- What the exported readers answer and write: the numbers of 01's table, and a value's fields as words.
+use Prim.Native.Nat.{ℕ}
+use mathlib.Core.List.{List, [], _∷_, _++_}
+use mathlib.Core.Bool.{cond}
+use lib.Dec.{ltb}
+use lib.ListN.{length, drop}
+use mir.Syntax.{w64}
+use mir.Val.{ofZ}
+use Rattle.message.specs.Piece.{pieceNumber}
+use Rattle.message.specs.Encode.{kindByte, sideByte, doneReasonByte, changeReasonByte, presentBit, optionalWord}
+use Rattle.message.specs.declared.L3Event.{L3Event}
+use Rattle.message.specs.declared.L3Event.the-variants.{Received, Open, Done, Match, Change, Unsupported}
+use Rattle.message.specs.declared.L3Message.{L3Message}
+use Rattle.message.specs.declared.L3Snapshot.{L3Snapshot}
+use Rattle.message.specs.declared.SnapshotOrder.{SnapshotOrder}
+use Rattle.message.specs.declared.piece.ReadMessage.{ReadMessage}
+use Rattle.message.specs.declared.piece.ReadMessage.the-variants.{Message, Refused}
+use Rattle.message.specs.declared.piece.ReadSnapshot.{ReadSnapshot}
+use Rattle.message.specs.declared.piece.ReadSnapshot.the-variants.{Snapshot, Refused as RefusedSnapshot}
+
+-- ---- A message: 21 words
+
+-- the fields of an event in the Rust's order, sixteen words: an id as high and low, a side and a reason as their bytes, an amount as its bits, an
+-- optional amount as 1 and its bits or as 0 and 0; 0 past the last field
+abbrev pub eventWords : L3Event → List ℕ
+eventWords (Received i side) = i .high ∷ i .low ∷ sideByte side ∷ 0 ∷ 0 ∷ 0 ∷ 0 ∷ 0 ∷ 0 ∷ 0 ∷ 0 ∷ 0 ∷ 0 ∷ 0 ∷ 0 ∷ 0 ∷ []
+eventWords (Open i side price remaining) =
+    i .high ∷ i .low ∷ sideByte side ∷ ofZ w64 price ∷ ofZ w64 remaining ∷ 0 ∷ 0 ∷ 0 ∷ 0 ∷ 0 ∷ 0 ∷ 0 ∷ 0 ∷ 0 ∷ 0 ∷ 0 ∷ []
+eventWords (Done i side price reason remaining) =
+    i .high ∷
+    i .low ∷
+    sideByte side ∷
+    presentBit price ∷
+    optionalWord price ∷
+    doneReasonByte reason ∷
+    presentBit remaining ∷ optionalWord remaining ∷ 0 ∷ 0 ∷ 0 ∷ 0 ∷ 0 ∷ 0 ∷ 0 ∷ 0 ∷ []
+eventWords (Match i j side price size) =
+    i .high ∷
+    i .low ∷ j .high ∷ j .low ∷ sideByte side ∷ ofZ w64 price ∷ ofZ w64 size ∷ 0 ∷ 0 ∷ 0 ∷ 0 ∷ 0 ∷ 0 ∷ 0 ∷ 0 ∷ 0 ∷ []
+eventWords (Change i side reason price oldSize newSize oldPrice newPrice newFunds) =
+    i .high ∷
+    i .low ∷
+    sideByte side ∷
+    changeReasonByte reason ∷
+    presentBit price ∷
+    optionalWord price ∷
+    presentBit oldSize ∷
+    optionalWord oldSize ∷
+    presentBit newSize ∷
+    optionalWord newSize ∷
+    presentBit oldPrice ∷
+    optionalWord oldPrice ∷
+    presentBit newPrice ∷ optionalWord newPrice ∷ presentBit newFunds ∷ optionalWord newFunds ∷ []
+eventWords (Unsupported kind) = kind ∷ 0 ∷ 0 ∷ 0 ∷ 0 ∷ 0 ∷ 0 ∷ 0 ∷ 0 ∷ 0 ∷ 0 ∷ 0 ∷ 0 ∷ 0 ∷ 0 ∷ 0 ∷ []
+
+abbrev pub messageWords : L3Message → List ℕ
+messageWords m =
+    kindByte (m .event) ∷
+    m .«product_id» .high ∷ m .«product_id» .low ∷ m .sequence ∷ m .«time_us» ∷ eventWords (m .event)
+
+-- 4 or 5 as the reader says; 7 where fewer than 21 words are lent; only a success writes
+abbrev pub messageNumber : List ℕ → ReadMessage → ℕ
+messageNumber out (Message m) = cond (ltb (length out) 21) 7 0
+messageNumber out (Refused e) = pieceNumber e
+
+abbrev pub messageOut : List ℕ → ReadMessage → List ℕ
+messageOut out (Message m) = cond (ltb (length out) 21) out (messageWords m ++ drop 21 out)
+messageOut out (Refused e) = out
+
+-- ---- A snapshot without its orders: 5 words
+
+abbrev pub snapshotWords : L3Snapshot → List ℕ
+snapshotWords v = v .«product_id» .high ∷ v .«product_id» .low ∷ v .sequence ∷ v .bids ∷ v .asks ∷ []
+
+abbrev pub snapshotNumber : List ℕ → ReadSnapshot → ℕ
+snapshotNumber out (Snapshot v) = cond (ltb (length out) 5) 7 0
+snapshotNumber out (RefusedSnapshot e) = pieceNumber e
+
+abbrev pub snapshotOut : List ℕ → ReadSnapshot → List ℕ
+snapshotOut out (Snapshot v) = cond (ltb (length out) 5) out (snapshotWords v ++ drop 5 out)
+snapshotOut out (RefusedSnapshot e) = out
+
+-- ---- An order of a snapshot: 4 words
+
+abbrev pub orderWords : SnapshotOrder → List ℕ
+orderWords o = o .«order_id» .high ∷ o .«order_id» .low ∷ ofZ w64 (o .price) ∷ ofZ w64 (o .size) ∷ []
+
+abbrev pub orderNumber : List ℕ → ℕ
+orderNumber out = cond (ltb (length out) 4) 7 0
+
+abbrev pub orderOut : List ℕ → SnapshotOrder → List ℕ
+orderOut out o = cond (ltb (length out) 4) out (orderWords o ++ drop 4 out)
