@@ -1,17 +1,21 @@
 -- Amounts and their range. 01, "Values in the domain": an amount is a signed 64-bit whole number of units of 10^-8, from −10^15 to 10^15.
+use Prim.Native.Nat.{ℕ}
 use mathlib.Core.Bool.{Bool, true, _&&_}
 use mathlib.Core.List.{List, [], _∷_}
-use lib.IntN.{ℤ, pos, negsuc}
-use lib.Signed.{leZ}
+use lib.Dec.{leb}
+use lib.IntN.{ℤ, natAbs}
 use Rattle.message.specs.declared.OptionalAmount.{OptionalAmount}
 use Rattle.message.specs.declared.OptionalAmount.the-variants.{Absent, Given}
 use Rattle.message.specs.declared.L3Event.{L3Event}
 use Rattle.message.specs.declared.L3Event.the-variants.{Received, Open, Done, Match, Change, Unsupported}
 use Rattle.message.specs.declared.SnapshotOrder.{SnapshotOrder}
 
--- negsuc n is −(n + 1)
+-- the largest amount, and how far below zero an amount may be
+abbrev pub amountLimit : ℕ
+amountLimit = 1000000000000000
+
 unfoldable pub inRange : ℤ → Bool
-inRange a = leZ (negsuc 999999999999999) a && leZ a (pos 1000000000000000)
+inRange a = leb (natAbs a) amountLimit
 
 -- Number 5 speaks of present amounts only.
 unfoldable pub optionalInRange : OptionalAmount → Bool

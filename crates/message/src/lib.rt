@@ -127,12 +127,14 @@ pub struct L3Snapshot {
     pub asks: usize,
 }
 
-// From -10^15 to 10^15.
+// The largest amount, and its negative the smallest.
+pub const AMOUNT_LIMIT: i64 = 1000000000000000;
+
 pub fn in_range(amount: i64) -> bool
     ensures { λ r. ⌜ r ≡ inRange amount ⌝ }
 {
-    if -1000000000000000 <= amount {
-        amount <= 1000000000000000
+    if -AMOUNT_LIMIT <= amount {
+        amount <= AMOUNT_LIMIT
     } else {
         false
     }
