@@ -1,0 +1,96 @@
+//! The oracle's command line; see README.md.
+
+use std::io::{self, BufRead, BufWriter, Write};
+use std::path::Path;
+use std::process::ExitCode;
+
+use oracle::call::{Call, Subject};
+use oracle::compare::compare;
+use oracle::generate::Generator;
+use oracle::model::Model;
+use oracle::pieces;
+use oracle::rust::Rust;
+
+const USAGE: &str = "usage: oracle gen SEED N | run | model | compare SEED N | pieces DIR
+with the feature `port`: oracle reader SEED N | bench | show";
+
+fn main() -> ExitCode {
+    let args: Vec<String> = std::env::args().skip(1).collect();
+    let words: Vec<&str> = args.iter().map(String::as_str).collect();
+    let done = match words.as_slice() {
+        ["gen", seed, count] => numbers(seed, count).and_then(|(s, n)| generate(s, n)),
+        ["run"] => answer(&mut Rust::new()),
+        ["model"] => answer(&mut Model::new()),
+        ["compare", seed, count] => numbers(seed, count).and_then(|(s, n)| side_by_side(s, n)),
+        ["pieces", folder] => pieces::write(Path::new(folder)).map_err(|e| e.to_string()),
+        #[cfg(feature = "port")]
+        ["reader", seed, count] => numbers(seed, count).and_then(|(s, n)| readers(s, n)),
+        #[cfg(feature = "port")]
+        ["bench"] => Ok(oracle::bench::run()),
+        #[cfg(feature = "port")]
+        ["show"] => Ok(oracle::show::run()),
+        _ => Err(USAGE.to_string()),
+    };
+    match done {
+        Ok(()) => ExitCode::SUCCESS,
+        Err(message) => {
+            eprintln!("{message}");
+            ExitCode::FAILURE
+        }
+    }
+}
+
+fn numbers(seed: &str, count: &str) -> Result<(u64, u64), String> {
+    match (seed.parse(), count.parse()) {
+        (Ok(seed), Ok(count)) => Ok((seed, count)),
+        _ => Err(USAGE.to_string()),
+    }
+}
+
+fn generate(seed: u64, count: u64) -> Result<(), String> {
+    let mut out = BufWriter::new(io::stdout().lock());
+    for call in Generator::new(seed).take(count as usize) {
+        writeln!(out, "{call}").map_err(|e| e.to_string())?;
+    }
+    out.flush().map_err(|e| e.to_string())
+}
+
+/// Answers the call lines of the standard input, one line each.
+fn answer(subject: &mut impl Subject) -> Result<(), String> {
+    let mut out = BufWriter::new(io::stdout().lock());
+    for (number, line) in io::stdin().lock().lines().enumerate() {
+        let line = line.map_err(|e| e.to_string())?;
+        let call: Call = line
+            .parse()
+            .map_err(|e| format!("line {}: {e}", number + 1))?;
+        writeln!(out, "{}", subject.call(&call)).map_err(|e| e.to_string())?;
+    }
+    out.flush().map_err(|e| e.to_string())
+}
+
+fn side_by_side(seed: u64, count: u64) -> Result<(), String> {
+    match compare(seed, count, &mut Model::new()) {
+        Ok(tally) => {
+            println!(
+                "{} calls agree: {} decided by the Rust, {} without a word",
+                tally.calls, tally.rust, tally.no_word
+            );
+            Ok(())
+        }
+        Err(difference) => {
+            for call in &difference.calls {
+                println!("{call}");
+            }
+            println!("rust  {}", difference.rust);
+            println!("model {}", difference.other);
+            Err(format!("first difference at call {}", difference.call))
+        }
+    }
+}
+
+#[cfg(feature = "port")]
+fn readers(seed: u64, count: u64) -> Result<(), String> {
+    let tally = oracle::reader::compare(seed, count)?;
+    println!("{} pieces agree: {tally:?}", tally.pieces);
+    Ok(())
+}
