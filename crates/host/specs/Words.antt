@@ -6,17 +6,17 @@ use lib.Dec.{ltb}
 use lib.ListN.{length, drop}
 use mir.Syntax.{w64}
 use mir.Val.{ofZ}
-use Rattle.message.specs.Piece.{pieceNumber}
-use Rattle.message.specs.Encode.{kindByte, sideByte, doneReasonByte, changeReasonByte, presentBit, optionalWord}
+use Rattle.piece.specs.Piece.{pieceNumber}
+use Rattle.piece.specs.Encode.{kindByte, sideByte, doneReasonByte, changeReasonByte, presentBit, optionalWord}
 use Rattle.message.specs.declared.L3Event.{L3Event}
 use Rattle.message.specs.declared.L3Event.the-variants.{Received, Open, Done, Match, Change, Unsupported}
 use Rattle.message.specs.declared.L3Message.{L3Message}
 use Rattle.message.specs.declared.L3Snapshot.{L3Snapshot}
 use Rattle.message.specs.declared.SnapshotOrder.{SnapshotOrder}
-use Rattle.message.specs.declared.piece.ReadMessage.{ReadMessage}
-use Rattle.message.specs.declared.piece.ReadMessage.the-variants.{Message, Refused}
-use Rattle.message.specs.declared.piece.ReadSnapshot.{ReadSnapshot}
-use Rattle.message.specs.declared.piece.ReadSnapshot.the-variants.{Snapshot, Refused as RefusedSnapshot}
+use Rattle.piece.specs.declared.ReadMessage.{ReadMessage}
+use Rattle.piece.specs.declared.ReadMessage.the-variants.{Message, Refused}
+use Rattle.piece.specs.declared.ReadSnapshot.{ReadSnapshot}
+use Rattle.piece.specs.declared.ReadSnapshot.the-variants.{Snapshot, Refused as RefusedSnapshot}
 
 -- ---- A message: 21 words
 

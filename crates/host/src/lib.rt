@@ -7,19 +7,19 @@ use message::L3Side;
 use message::L3Snapshot;
 use message::OptionalAmount;
 use message::SnapshotOrder;
-use message::piece::ReadMessage;
-use message::piece::ReadSnapshot;
-use message::piece::read_message;
-use message::piece::read_snapshot;
-use message::piece::snapshot_order;
+use piece::ReadMessage;
+use piece::ReadSnapshot;
+use piece::read_message;
+use piece::read_snapshot;
+use piece::snapshot_order;
 ghost use mathlib.Core.Path.{_≡_};
 ghost use mathlib.Core.List.{_++_};
 ghost use Prim.Native.Nat.{_+_, _≤_};
 ghost use lib.ListN.{length, take, drop};
 ghost use mir.Syntax.{w64};
 ghost use mir.Val.{ofZ};
-ghost use Rattle.message.specs.Piece.{readMessage, readSnapshot, orderAt};
-ghost use Rattle.message.specs.Encode.{kindByte, sideByte, doneReasonByte, changeReasonByte, presentBit, optionalWord};
+ghost use Rattle.piece.specs.Piece.{readMessage, readSnapshot, orderAt};
+ghost use Rattle.piece.specs.Encode.{kindByte, sideByte, doneReasonByte, changeReasonByte, presentBit, optionalWord};
 ghost use Rattle.host.specs.Words.{eventWords, messageNumber, messageOut, snapshotNumber, snapshotOut, orderNumber, orderOut};
 
 // An amount's 64 bits.

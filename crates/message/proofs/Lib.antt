@@ -1,7 +1,2 @@
-pub mod Parts
 pub mod Signed
-pub mod Shapes
-pub mod Numbers
-pub mod Encoded
-pub mod Decoded
-pub mod RoundTrip
+pub mod Amounts

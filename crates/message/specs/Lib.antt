@@ -1,5 +1,3 @@
 pub mod Values
-pub mod Bytes
-pub mod Piece
-pub mod Encode
-pub mod RoundTrip
+pub mod Same
+pub mod Amounts

@@ -1,8 +1,9 @@
-// Order by order (L3) messages and snapshots: the values of message.rs. The reader that makes them from bytes is in piece.rt.
+// Order by order (L3) messages and snapshots: the values of message.rs. Crate `piece` reads them from bytes.
 ghost use mathlib.Core.Path.{_≡_};
+ghost use Rattle.message.specs.Same.{sameSide, sameId, sameProduct};
 ghost use Rattle.message.specs.Values.{inRange, optionalInRange, eventInRange};
 
-pub mod piece; // piece.rt: the reader of pieces
+pub mod amount; // amount.rt: tests on amounts
 
 // The side of an order. On a match it is the maker's side.
 pub enum L3Side {
@@ -195,4 +196,31 @@ pub fn event_in_range(event: L3Event) -> bool
         }
         L3Event::Unsupported { .. } => true,
     }
+}
+
+pub fn same_side(a: L3Side, b: L3Side) -> bool
+    ensures { λ r. ⌜ r ≡ sameSide a b ⌝ }
+{
+    match a {
+        L3Side::Buy => match b {
+            L3Side::Buy => true,
+            L3Side::Sell => false,
+        },
+        L3Side::Sell => match b {
+            L3Side::Buy => false,
+            L3Side::Sell => true,
+        },
+    }
+}
+
+pub fn same_id(a: OrderId, b: OrderId) -> bool
+    ensures { λ r. ⌜ r ≡ sameId a b ⌝ }
+{
+    (a.high == b.high) & (a.low == b.low)
+}
+
+pub fn same_product(a: ProductId, b: ProductId) -> bool
+    ensures { λ r. ⌜ r ≡ sameProduct a b ⌝ }
+{
+    (a.high == b.high) & (a.low == b.low)
 }

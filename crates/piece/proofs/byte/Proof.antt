@@ -1,0 +1,14 @@
+use mathlib.Core.Path.{refl}
+use native.Mathlib.Omega.{arith}
+use borrow.Author.Needs.{needs}
+use Rattle.piece.proofs.byte.Statement.{statement}
+use Rattle.piece.proofs.byte.Tie as tie
+
+cast-result : tie.Need-cast-result
+cast-result c = omega (arith, c .shared-slice-known .given (c .before .args .i))
+
+returns : tie.Need-returns
+returns c = (refl, omega (arith, c .shared-slice-known .given (c .before .args .i)))
+
+pub byte-spec : {M : Type 1} → statement M
+byte-spec = tie.close (tie.spec (λ c. search needs) cast-result returns)

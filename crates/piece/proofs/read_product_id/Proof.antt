@@ -1,0 +1,12 @@
+use borrow.Author.Needs.{needs}
+use Rattle.piece.specs.Piece.{productIdAt}
+use Rattle.piece.proofs.read_product_id.Statement.{statement}
+use Rattle.piece.proofs.read_product_id.Tie as tie
+
+returns : tie.Need-returns
+unfolding productIdAt
+returns c = rw (c .read-be642 .ensures, c .before .read-be64 .ensures)
+
+pub read-product-id-spec : {M : Type 1} → statement M
+read-product-id-spec =
+    tie.close (tie.spec (λ c κs. search needs) (λ c. search needs) (λ c κs. search needs) returns)
