@@ -1,4 +1,5 @@
 // The library as Rust and C call it: functions on numbers and slices, each answering a number of 01's table, 0 for success.
+use book_valid::rows_broken;
 use message::ChangeReason;
 use message::DoneReason;
 use message::L3Event;
@@ -20,6 +21,7 @@ ghost use mir.Syntax.{w64};
 ghost use mir.Val.{ofZ};
 ghost use Rattle.piece.specs.Piece.{readMessage, readSnapshot, orderAt};
 ghost use Rattle.piece.specs.Encode.{kindByte, sideByte, doneReasonByte, changeReasonByte, presentBit, optionalWord};
+ghost use Rattle.book.specs.Broken.{wordsBroken};
 ghost use Rattle.host.specs.Words.{eventWords, messageNumber, messageOut, snapshotNumber, snapshotOut, orderNumber, orderOut};
 
 // An amount's 64 bits.
@@ -318,4 +320,12 @@ pub extern "C" fn pinuglaw_snapshot_order(bytes: &[u8], place: usize, out: &mut 
         &[id.high, id.low, bits(order.price), bits(order.size)],
     );
     0
+}
+
+// Whether `n` rows are no book: number 3's part on the rows.
+#[no_mangle]
+pub extern "C" fn pinuglaw_rows_broken(rows: &[u64], n: usize, max_levels: usize) -> bool
+    ensures { λ r. ⌜ r ≡ wordsBroken «max_levels» (now (rows .entry)) n ⌝ }
+{
+    rows_broken(rows, n, max_levels)
 }

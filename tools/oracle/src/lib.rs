@@ -15,6 +15,8 @@ pub mod pieces;
 pub mod port;
 #[cfg(feature = "port")]
 pub mod reader;
+#[cfg(feature = "port")]
+pub mod rows;
 pub mod rust;
 #[cfg(feature = "port")]
 pub mod show;

@@ -26,7 +26,8 @@ use crate::call::{
     LevelOrder, Memory, OUTPUT_SEED, SCRATCH_SEED, Said, Segment, Status, Subject, Values, Voice,
     digest_segments, digest_words, fresh_rows, fresh_segments, fresh_words, left,
 };
-use crate::piece::Side;
+use crate::call::{Rules, SizeDecrease};
+use crate::piece::{Product, Side};
 use book::{LentBook, Refusal, State};
 use reads::{LevelRead, Reading};
 use slip::Planted;
@@ -530,4 +531,18 @@ impl Subject for Model {
             state: book.map(Book::shown),
         }))
     }
+}
+
+/// Number 3's part on the rows: `rows` rows in `words`, under a limit of levels. More rows than the ceiling, or than the words hold, are broken.
+pub fn rows_broken(words: &[u64], rows: u64, max_levels: u64) -> bool {
+    let rules = Rules {
+        size_decrease: SizeDecrease::KeepsPriority,
+        max_orders: rows,
+        max_levels,
+    };
+    let mut state = State::fresh(Product::default(), rules, 0);
+    state.status = Status::Valid;
+    (state.rows, state.segments) = (rows, 1);
+    let held = (words.len() / rows::ROW_WORDS) as u64;
+    rows > book::CEILING || rows > held || state.broken(Planted(None), words)
 }

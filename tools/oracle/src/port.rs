@@ -23,6 +23,12 @@ mod exported {
             out: *mut u64,
             out_len: usize,
         ) -> u64;
+        pub fn pinuglaw_rows_broken(
+            rows: *const u64,
+            rows_len: usize,
+            n: usize,
+            max_levels: usize,
+        ) -> bool;
     }
 }
 
@@ -52,4 +58,10 @@ pub fn snapshot_order(bytes: &[u8], place: usize, out: &mut [u64]) -> u64 {
     let (data, length) = (out.as_mut_ptr(), out.len());
     // SAFETY: as above.
     unsafe { exported::pinuglaw_snapshot_order(bytes.as_ptr(), bytes.len(), place, data, length) }
+}
+
+/// Number 3's part on the rows.
+pub fn rows_broken(rows: &[u64], n: usize, max_levels: usize) -> bool {
+    // SAFETY: as above.
+    unsafe { exported::pinuglaw_rows_broken(rows.as_ptr(), rows.len(), n, max_levels) }
 }

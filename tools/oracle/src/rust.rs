@@ -3,7 +3,7 @@
 //! The Rust decides 10 to 52 and every value it has. The runner supplies what the Rust lacks: 1, 2, 4 to 9, segment times,
 //! the handshake one message at a time, lent lengths and the port's ceilings. Where neither can say, the answer is no word.
 
-mod convert;
+pub(crate) mod convert;
 mod host;
 #[cfg(test)]
 mod tests;

@@ -1,0 +1,4 @@
+pub mod Kept
+pub mod Moves
+pub mod Rows
+pub mod Stored

@@ -1,0 +1,4 @@
+pub mod Prices
+pub mod Totals
+pub mod Walks
+pub mod Writing
