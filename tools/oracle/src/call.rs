@@ -452,6 +452,8 @@ pub enum Voice {
     /// The runner supplied what the Rust lacks.
     Runner,
     Model,
+    /// The port's exported functions.
+    Port,
 }
 
 #[derive(Debug, Clone, PartialEq, Eq)]

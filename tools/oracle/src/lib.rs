@@ -14,6 +14,8 @@ pub mod pieces;
 #[cfg(feature = "port")]
 pub mod port;
 #[cfg(feature = "port")]
+pub mod ported;
+#[cfg(feature = "port")]
 pub mod reader;
 #[cfg(feature = "port")]
 pub mod rows;

@@ -318,6 +318,7 @@ impl Line {
                 Voice::Rust => "rust",
                 Voice::Runner => "runner",
                 Voice::Model => "model",
+                Voice::Port => "port",
             })
             .values(&said.values)
             .put(";")

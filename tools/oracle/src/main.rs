@@ -12,7 +12,7 @@ use oracle::pieces;
 use oracle::rust::Rust;
 
 const USAGE: &str = "usage: oracle gen SEED N | run | model | compare SEED N | pieces DIR
-with the feature `port`: oracle reader SEED N | bench | show";
+with the feature `port`: oracle reader SEED N | port SEED N | bench | show";
 
 fn main() -> ExitCode {
     let args: Vec<String> = std::env::args().skip(1).collect();
@@ -25,6 +25,8 @@ fn main() -> ExitCode {
         ["pieces", folder] => pieces::write(Path::new(folder)).map_err(|e| e.to_string()),
         #[cfg(feature = "port")]
         ["reader", seed, count] => numbers(seed, count).and_then(|(s, n)| readers(s, n)),
+        #[cfg(feature = "port")]
+        ["port", seed, count] => numbers(seed, count).and_then(|(s, n)| ported(s, n)),
         #[cfg(feature = "port")]
         ["bench"] => Ok(oracle::bench::run()),
         #[cfg(feature = "port")]
@@ -92,5 +94,12 @@ fn side_by_side(seed: u64, count: u64) -> Result<(), String> {
 fn readers(seed: u64, count: u64) -> Result<(), String> {
     let tally = oracle::reader::compare(seed, count)?;
     println!("{} pieces agree: {tally:?}", tally.pieces);
+    Ok(())
+}
+
+#[cfg(feature = "port")]
+fn ported(seed: u64, count: u64) -> Result<(), String> {
+    let tally = oracle::ported::compare(seed, count)?;
+    println!("{} calls agree: {tally:?}", tally.calls);
     Ok(())
 }

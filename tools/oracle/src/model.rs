@@ -458,7 +458,7 @@ impl Book {
             status,
             counts,
             last_segment: self.last_segment(),
-            levels: self.levels(),
+            levels: levels(&self.state, &self.words),
             memory: Some(Memory {
                 rows: digest_words(&self.words),
                 segments: digest_segments(&self.list),
@@ -467,36 +467,36 @@ impl Book {
         self.last_shown = Some(shown);
         shown
     }
+}
 
-    /// The levels' digest, unless the book is broken (3).
-    fn levels(&self) -> Option<u64> {
-        let line = rows::line(&self.words, self.state.rows);
-        if line.len() as u64 != self.state.rows || self.state.broken(Planted(None), &self.words) {
-            return None;
-        }
-        let mut digest = LevelDigest::default();
-        for side in [Side::Buy, Side::Sell] {
-            for level in reads::levels(&line, side) {
-                digest.level(side, level.price, level.total);
-                // Of an invalid book the Rust shows totals only.
-                let queue = if self.state.status == Status::Valid {
-                    level.queue
-                } else {
-                    vec![]
-                };
-                queue.iter().for_each(|row| {
-                    digest.order(&LevelOrder {
-                        id: row.id,
-                        remaining: row.remaining,
-                        observed: row.observed(),
-                        entered_at: row.entered_at,
-                        decreased_at: (row.decreased == 1).then_some(row.decreased_at),
-                    })
-                });
-            }
-        }
-        Some(digest.value())
+/// The levels' digest, unless the book is broken (3).
+fn levels(state: &State, words: &[u64]) -> Option<u64> {
+    let line = rows::line(words, state.rows);
+    if line.len() as u64 != state.rows || state.broken(Planted(None), words) {
+        return None;
     }
+    let mut digest = LevelDigest::default();
+    for side in [Side::Buy, Side::Sell] {
+        for level in reads::levels(&line, side) {
+            digest.level(side, level.price, level.total);
+            // Of an invalid book the Rust shows totals only.
+            let queue = if state.status == Status::Valid {
+                level.queue
+            } else {
+                vec![]
+            };
+            queue.iter().for_each(|row| {
+                digest.order(&LevelOrder {
+                    id: row.id,
+                    remaining: row.remaining,
+                    observed: row.observed(),
+                    entered_at: row.entered_at,
+                    decreased_at: (row.decreased == 1).then_some(row.decreased_at),
+                })
+            });
+        }
+    }
+    Some(digest.value())
 }
 
 /// The readers and the forging of handshakes, estimates and ahead-lists concern no book.

@@ -23,6 +23,26 @@ mod exported {
             out: *mut u64,
             out_len: usize,
         ) -> u64;
+        pub fn pinuglaw_apply(
+            state: *mut u64,
+            state_len: usize,
+            rows: *mut u64,
+            rows_len: usize,
+            segments: *mut u64,
+            segments_len: usize,
+            message: *const u64,
+            message_len: usize,
+        ) -> u64;
+        pub fn pinuglaw_bootstrap(
+            state: *mut u64,
+            state_len: usize,
+            rows: *mut u64,
+            rows_len: usize,
+            segments: *mut u64,
+            segments_len: usize,
+            bytes: *const u8,
+            bytes_len: usize,
+        ) -> u64;
         pub fn pinuglaw_rows_broken(
             rows: *const u64,
             rows_len: usize,
@@ -36,6 +56,8 @@ mod exported {
 pub const MESSAGE_WORDS: usize = 21;
 pub const SNAPSHOT_WORDS: usize = 5;
 pub const ORDER_WORDS: usize = 4;
+/// The words of a book's state.
+pub const BLOCK_WORDS: usize = 27;
 
 /// Reads a message piece into words; the answer is 01's number, 0 for success.
 pub fn read_message(bytes: &[u8], out: &mut [u64]) -> u64 {
@@ -64,4 +86,38 @@ pub fn snapshot_order(bytes: &[u8], place: usize, out: &mut [u64]) -> u64 {
 pub fn rows_broken(rows: &[u64], n: usize, max_levels: usize) -> bool {
     // SAFETY: as above.
     unsafe { exported::pinuglaw_rows_broken(rows.as_ptr(), rows.len(), n, max_levels) }
+}
+
+/// Applies a message, handed over as its words: the number, and 256 more where the book changed.
+pub fn apply(state: &mut [u64], rows: &mut [u64], segments: &mut [u64], message: &[u64]) -> u64 {
+    // SAFETY: as above; the borrows keep the slices apart.
+    unsafe {
+        exported::pinuglaw_apply(
+            state.as_mut_ptr(),
+            state.len(),
+            rows.as_mut_ptr(),
+            rows.len(),
+            segments.as_mut_ptr(),
+            segments.len(),
+            message.as_ptr(),
+            message.len(),
+        )
+    }
+}
+
+/// Loads a snapshot piece.
+pub fn bootstrap(state: &mut [u64], rows: &mut [u64], segments: &mut [u64], bytes: &[u8]) -> u64 {
+    // SAFETY: as above.
+    unsafe {
+        exported::pinuglaw_bootstrap(
+            state.as_mut_ptr(),
+            state.len(),
+            rows.as_mut_ptr(),
+            rows.len(),
+            segments.as_mut_ptr(),
+            segments.len(),
+            bytes.as_ptr(),
+            bytes.len(),
+        )
+    }
 }

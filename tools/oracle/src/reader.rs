@@ -225,7 +225,8 @@ fn change_words(event: &Event) -> Vec<u64> {
     words
 }
 
-fn message_words(message: &Message) -> Vec<u64> {
+/// A message as crate `host` hands its fields over.
+pub fn message_words(message: &Message) -> Vec<u64> {
     let [high, low] = id_words(u128::from_be_bytes(message.product));
     let kind = u64::from(message.event.kind());
     let mut words = vec![kind, high, low, message.sequence, message.time_us];

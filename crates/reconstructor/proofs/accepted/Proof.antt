@@ -1,0 +1,12 @@
+use borrow.Author.Needs.{needs}
+use Rattle.reconstructor.specs.Applied.{acceptedReply}
+use Rattle.reconstructor.proofs.accepted.Statement.{statement}
+use Rattle.reconstructor.proofs.accepted.Tie as tie
+
+returns : tie.Need-returns
+unfolding acceptedReply
+returns c = rw (c .with-status .ensures, c .before .with-counts .ensures, c .before .before .counted .ensures)
+
+pub accepted-spec : {M : Type 1} → statement M
+accepted-spec =
+    tie.close (tie.spec (λ c κs. search needs) (λ c κs. search needs) (λ c κs. search needs) returns)

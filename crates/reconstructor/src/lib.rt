@@ -1,0 +1,257 @@
+// One message applied to a book: `apply` checks the state and what it is lent, then `apply_trusted` works the message.
+use message::L3Message;
+use reconstructor_checks::Checked;
+use reconstructor_plan::Plan;
+use reconstructor_plan::Planned;
+use reconstructor_state::Applied;
+use reconstructor_state::ApplyAnswer;
+use reconstructor_state::BookReconstructor;
+use reconstructor_state::Counter;
+use reconstructor_state::Invalidation;
+use reconstructor_state::InvalidationKind;
+use reconstructor_state::Segment;
+use reconstructor_state::Status;
+ghost use mathlib.Core.Path.{_≡_};
+ghost use Prim.Native.Nat.{_*_, _≤_, _<_};
+ghost use lib.ListN.{length};
+ghost use Rattle.book.specs.Rows.{ceiling, rowsOf, lineOf};
+ghost use Rattle.reconstructor_state.specs.State.{lastOf};
+ghost use Rattle.reconstructor_checks.specs.Own.{Usable};
+ghost use Rattle.reconstructor_plan.specs.Rules.{eventDeed};
+ghost use Rattle.reconstructor_plan.specs.Plans.{Ready, PlanFits, deedOf};
+ghost use Rattle.reconstructor.specs.Refusals.{admitRefusal, turnRefusal};
+ghost use Rattle.reconstructor.specs.Applied.{refusedReply, invalidatedReply, acceptedReply, accepted, core, turned, nextSegment, recorded, leaves, applied};
+ghost use Rattle.reconstructor.specs.Steps.{AdmitsFor, TurnsFor};
+
+// What a call leaves of the state, with its answer.
+pub struct Reply {
+    pub book: BookReconstructor,
+    pub answer: ApplyAnswer,
+}
+
+// Whether a message goes on to its turn in a valid book, or the answer that stops it.
+pub enum Admitted {
+    Go { last_seq: u64 },
+    Stop(ApplyAnswer),
+}
+
+// A plan, or why the message ends the segment.
+pub enum Turn {
+    Plan(Plan),
+    Broken(InvalidationKind),
+}
+
+// A refusal before the turn: 10 and 17 are counted.
+fn refused(book: BookReconstructor, answer: ApplyAnswer) -> Reply
+    ensures { λ r. ⌜ r ≡ refusedReply book answer ⌝ }
+{
+    let counts = book.counts;
+    match answer {
+        ApplyAnswer::Applied(_) => Reply { book, answer },
+        ApplyAnswer::Unusable(_) => Reply { book, answer },
+        ApplyAnswer::AmountOutOfRange => Reply { book, answer },
+        ApplyAnswer::WrongProduct => Reply {
+            book: book.with_counts(counts.wrong_product()),
+            answer,
+        },
+        ApplyAnswer::NotBootstrapped => Reply { book, answer },
+        ApplyAnswer::Invalidated(_) => Reply { book, answer },
+        ApplyAnswer::AwaitingSnapshot(_) => Reply {
+            book: book.with_counts(counts.skipped_while_invalid()),
+            answer,
+        },
+    }
+}
+
+// The message ends the segment; the rows stay as a stale book.
+fn invalidated(book: BookReconstructor, last: u64, seq: u64, kind: InvalidationKind) -> Reply
+    ensures { λ r. ⌜ r ≡ invalidatedReply book last seq kind ⌝ }
+{
+    let invalidation = Invalidation {
+        last_good_seq: last,
+        first_offending_seq: seq,
+        kind,
+    };
+    Reply {
+        book: book.with_status(Status::Invalidated(invalidation)),
+        answer: ApplyAnswer::Invalidated(invalidation),
+    }
+}
+
+// The message is applied, and so many rows are in use.
+fn accepted(
+    book: BookReconstructor,
+    seq: u64,
+    rows: usize,
+    counter: Counter,
+    applied: Applied,
+) -> Reply
+    ensures { λ r. ⌜ r ≡ acceptedReply book seq rows counter applied ⌝ }
+{
+    let counts = book.counts;
+    let mut next = book.with_counts(counts.counted(counter))
+        .with_status(Status::Valid { last_seq: seq });
+    next.rows = rows;
+    Reply {
+        book: next,
+        answer: ApplyAnswer::Applied(applied),
+    }
+}
+
+// What comes before the sequence in a state that passed 1, 2 and 3: 5, 10, 15, 17.
+fn admit(book: BookReconstructor, message: L3Message) -> Admitted
+    ensures { λ r. ⌜ AdmitsFor (admitRefusal (book .«product_id») (book .status) message) (lastOf (book .status)) r ⌝ }
+{
+    let event = message.event;
+    if !message::event_in_range(event) {
+        return Admitted::Stop(ApplyAnswer::AmountOutOfRange);
+    }
+    let expected = book.product_id;
+    let got = message.product_id;
+    if !message::same_product(got, expected) {
+        return Admitted::Stop(ApplyAnswer::WrongProduct);
+    }
+    let status = book.status;
+    match status {
+        Status::Empty => Admitted::Stop(ApplyAnswer::NotBootstrapped),
+        Status::Valid { last_seq } => Admitted::Go { last_seq },
+        Status::Invalidated(invalidation) => {
+            Admitted::Stop(ApplyAnswer::AwaitingSnapshot(invalidation))
+        }
+    }
+}
+
+// The turn of a message: its sequence, then its event.
+fn take_turn(book: BookReconstructor, rows: &[u64], last_seq: u64, message: L3Message) -> Turn
+    requires { ⌜ Ready (now rows) (book .rows) (book .rules .«max_orders») ⌝ }
+    ensures { λ r. ⌜ TurnsFor (turnRefusal (book .rules) (lineOf (rowsOf (now (rows .entry)) (book .rows))) «last_seq» message) (eventDeed (rowsOf (now (rows .entry)) (book .rows)) (message .sequence) (message .event)) (now (rows .entry)) (book .rows) r ⌝ }
+{
+    let seq = message.sequence;
+    if last_seq == 18446744073709551615 {
+        return Turn::Broken(InvalidationKind::SequenceOverflow);
+    }
+    if seq <= last_seq {
+        return Turn::Broken(InvalidationKind::OutOfOrderOrDuplicate {
+            last: last_seq,
+            got: seq,
+        });
+    }
+    let expected = last_seq + 1;
+    if seq > expected {
+        return Turn::Broken(InvalidationKind::Gap { expected, got: seq });
+    }
+    let rules = book.rules;
+    let event = message.event;
+    match reconstructor_plan::plan_event(rules, rows, book.rows, seq, event) {
+        Planned::Plan(plan) => Turn::Plan(plan),
+        Planned::Refused(d) => Turn::Broken(InvalidationKind::Discrepancy(d)),
+    }
+}
+
+// Applies a plan to the rows and the state.
+fn commit(book: BookReconstructor, rows: &mut [u64], plan: Plan, seq: u64) -> Reply
+    requires { ⌜ Ready (now rows) (book .rows) (book .rules .«max_orders») ⌝ }
+    requires { ⌜ PlanFits (now rows) (book .rows) plan ⌝ }
+    ensures { λ r. ⌜ core r (now (rows .exit)) ≡ accepted book (now (rows .entry)) seq (deedOf (now (rows .entry)) (book .rows) plan) ⌝ }
+{
+    let n = book.rows;
+    match plan {
+        Plan::NoEffect(counter) => accepted(book, seq, n, counter, Applied::NoBookEffect),
+        Plan::Insert(order) => {
+            book::insert(rows, n, order);
+            accepted(book, seq, n + 1, Counter::Open, Applied::BookChanged)
+        }
+        Plan::Reduce {
+            at,
+            remaining,
+            mark,
+            counter,
+        } => {
+            book::reduce(rows, n, at, remaining, mark);
+            accepted(book, seq, n, counter, Applied::BookChanged)
+        }
+        Plan::Remove { at, counter } => {
+            book::remove(rows, n, at);
+            accepted(book, seq, n - 1, counter, Applied::BookChanged)
+        }
+    }
+}
+
+// A message worked in a valid book whose last sequence is `last_seq`.
+fn apply_valid(
+    book: BookReconstructor,
+    rows: &mut [u64],
+    last_seq: u64,
+    message: L3Message,
+) -> Reply
+    requires { ⌜ Ready (now rows) (book .rows) (book .rules .«max_orders») ⌝ }
+    ensures { λ r. ⌜ core r (now (rows .exit)) ≡ turned book (now (rows .entry)) «last_seq» message ⌝ }
+{
+    let seq = message.sequence;
+    match take_turn(book, rows, last_seq, message) {
+        Turn::Plan(plan) => commit(book, rows, plan, seq),
+        Turn::Broken(kind) => invalidated(book, last_seq, seq, kind),
+    }
+}
+
+// What an answer makes of the last segment's record.
+fn next_segment(last: Segment, answer: ApplyAnswer, seq: u64, time_us: u64) -> Segment
+    ensures { λ r. ⌜ r ≡ nextSegment last answer seq «time_us» ⌝ }
+{
+    match answer {
+        ApplyAnswer::Applied(_) => last.extended(seq, time_us),
+        ApplyAnswer::Unusable(_) => last,
+        ApplyAnswer::AmountOutOfRange => last,
+        ApplyAnswer::WrongProduct => last,
+        ApplyAnswer::NotBootstrapped => last,
+        ApplyAnswer::Invalidated(invalidation) => last.ended(invalidation),
+        ApplyAnswer::AwaitingSnapshot(_) => last,
+    }
+}
+
+// Records an answer in the last of `count` segments: one load, one store.
+fn record_answer(segments: &mut [u64], count: usize, answer: ApplyAnswer, message: L3Message)
+    requires { ⌜ (0 < count) × (8 * count ≤ length (now segments)) ⌝ }
+    ensures { λ _. ⌜ now (segments .exit) ≡ recorded (now (segments .entry)) count message answer ⌝ }
+{
+    let at = count - 1;
+    let last = reconstructor_state::get_segment(segments, at);
+    let next = next_segment(last, answer, message.sequence, message.time_us);
+    reconstructor_state::set_segment(segments, at, next)
+}
+
+// `apply` of a state that passes 1, 2 and 3, without testing them again. It leaves such a state (`usable-kept`), so that a replay tests once.
+pub fn apply_trusted(
+    book: BookReconstructor,
+    rows: &mut [u64],
+    segments: &mut [u64],
+    message: L3Message,
+) -> Reply
+    requires { ⌜ Usable ceiling book (now rows) (now segments) ⌝ }
+    ensures { λ r. ⌜ leaves r (now (rows .exit)) (now (segments .exit)) ≡ applied ceiling book (now (rows .entry)) (now (segments .entry)) message ⌝ }
+{
+    match admit(book, message) {
+        Admitted::Stop(answer) => refused(book, answer),
+        Admitted::Go { last_seq } => {
+            let reply = apply_valid(book, rows, last_seq, message);
+            let answer = reply.answer;
+            record_answer(segments, book.segments, answer, message);
+            reply
+        }
+    }
+}
+
+// Applies the next message to a book. Nothing but the counts that 01 names changes unless every check passes.
+pub fn apply(
+    book: BookReconstructor,
+    rows: &mut [u64],
+    segments: &mut [u64],
+    message: L3Message,
+) -> Reply
+    ensures { λ r. ⌜ leaves r (now (rows .exit)) (now (segments .exit)) ≡ applied ceiling book (now (rows .entry)) (now (segments .entry)) message ⌝ }
+{
+    match reconstructor_checks::own_checks(book, rows, segments) {
+        Checked::Refused(why) => refused(book, ApplyAnswer::Unusable(why)),
+        Checked::Passed => apply_trusted(book, rows, segments, message),
+    }
+}

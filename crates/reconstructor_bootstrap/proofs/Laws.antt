@@ -1,0 +1,288 @@
+-- What a host may rely on: an accepted snapshot leaves a usable, well-formed book; a refused one leaves the book as it was.
+-- Assumes nothing.
+use Prim.Native.Nat.{ℕ, zero, suc, _+_, _*_, _-_, _/_, _≤_, _<_}
+use mathlib.Core.Path.{_≡_, refl, sym, ap, subst, _∙_}
+use mathlib.Core.Bool.{Bool, true, false, cond, _&&_}
+use mathlib.Core.List.{List, [], map}
+use mathlib.Core.Option.{Option, none, some}
+use native.Mathlib.Omega.{arith}
+use borrow.Author.Tests.{leb-true, eqb-false, ne-eqb, le-ltb}
+use lib.Dec.{eqb, lit<}
+use lib.IntN.{ℤ, pos, negsuc}
+use lib.ListN.{length}
+use Rattle.message.specs.declared.L3Snapshot.{L3Snapshot}
+use Rattle.piece.specs.declared.PieceError.{PieceError}
+use Rattle.piece.specs.declared.ReadSnapshot.{ReadSnapshot}
+use Rattle.piece.specs.declared.ReadSnapshot.the-variants.{Snapshot, Refused}
+use Rattle.message.specs.Amounts.{natOf}
+use Rattle.message.specs.Values.{amountLimit, inRange, orderInRange, ordersInRange}
+use Rattle.piece.specs.Piece.{bidsAt, asksAt, snapshotShaped, productIdAt, wordAt, orderAt, ordersFrom, snapshotOf, readSnapshot}
+use Rattle.book.specs.declared.Resting.{Resting}
+use Rattle.book.specs.Line.{Entry}
+use Rattle.book.specs.Rows.{rowsOf, stored, snapshotRow}
+use Rattle.book.specs.Broken.{WellFormed, someOutOfRange, SnapshotFits}
+use Rattle.reconstructor_state.specs.declared.Status.{Status}
+use Rattle.reconstructor_state.specs.declared.Status.the-variants.{Empty, Valid, Invalidated}
+use Rattle.reconstructor_state.specs.declared.Segment.{Segment}
+use Rattle.reconstructor_state.specs.declared.StateError.{StateError}
+use Rattle.reconstructor_state.specs.declared.StateError.the-variants.{LimitAboveCeiling, LentTooShort, MalformedBook}
+use Rattle.reconstructor_state.specs.Checks.{check, first}
+use Rattle.reconstructor_state.specs.declared.BookReconstructor.{BookReconstructor}
+use Rattle.reconstructor_state.specs.Segments.{segmentAt, setSegment, segmentWords, superseded, started}
+use Rattle.reconstructor_state.specs.State.{viewOf, lengthsOf, withCounts}
+use Rattle.reconstructor_checks.specs.Own.{broken, bookRefusal, Usable}
+use Rattle.reconstructor_bootstrap.specs.declared.SnapshotError.{SnapshotError}
+use Rattle.reconstructor_bootstrap.specs.declared.SnapshotError.the-variants.{WrongProduct, DuplicateId, InvalidValue, Crossed, CapacityExceeded}
+use Rattle.reconstructor_bootstrap.specs.declared.SnapshotAnswer.{SnapshotAnswer}
+use Rattle.reconstructor_bootstrap.specs.declared.SnapshotAnswer.the-variants.{Bootstrapped, Unusable, NotAPiece, AmountOutOfRange, ListFull, Rejected}
+use Rattle.reconstructor_bootstrap.specs.Numbers.{snapshotNumber}
+use Rattle.reconstructor_bootstrap.specs.Snapshot.{pieceAnswer, snapshotLine, notPositive, lineRefusal, snapshotRefusal, acceptRefusal, pieceRefusal, bootRefusal}
+use Rattle.reconstructor_bootstrap.specs.Bootstrap.{Parts, refusedBook, refused, bootedBook, closed, segmentAdded, accepted, taken, bootstrapped}
+use Rattle.reconstructor_bootstrap.specs.Places.{entryAt, entriesFrom}
+use Rattle.laws.proofs.Bools.{or-no, or-both, and-yes}
+use Rattle.laws.proofs.Splice.{splice-length}
+use Rattle.book.proofs.Kept.{snapshot-kept}
+use Rattle.book.proofs.Stored.{rows-stored, length-stored}
+use Rattle.reconstructor_state.proofs.Checks.{passed, first-passed}
+use Rattle.reconstructor_checks.proofs.Own.{usable, sound, rows-lent, segments-lent, kept, has-segment}
+use Rattle.reconstructor_bootstrap.proofs.Places.{rows-length, line-places}
+use Rattle.reconstructor_bootstrap.proofs.Vetted.{someNotPositive, has-passed}
+use Rattle.reconstructor_bootstrap.proofs.Whole.{settled-some, read, few-orders, length-snapshot}
+use Rattle.piece.specs.declared.PieceError.the-variants as pieces
+
+-- ---- number 5 and number 12: amounts of an accepted snapshot
+
+in-range-most : (a : ℤ) → inRange a ≡ true → natOf a ≤ amountLimit
+unfolding inRange
+in-range-most (pos n) h = leb-true n amountLimit h
+in-range-most (negsuc n) h = omega arith
+
+ranged : (bids : ℕ) (bytes : List ℕ) (i k : ℕ) → ordersInRange (ordersFrom bytes i k) ≡ true → someNotPositive (entriesFrom bids bytes i k) ≡ false
+    → someOutOfRange (entriesFrom bids bytes i k) ≡ false
+unfolding ordersInRange ordersFrom orderInRange entriesFrom entryAt
+ranged bids bytes i zero h p = refl
+ranged bids bytes i (suc k) h p =
+    let a = and-yes (inRange (orderAt bytes i .price) && inRange (orderAt bytes i .size)) (ordersInRange (ordersFrom bytes (i + 1) k)) h in
+    let b = and-yes (inRange (orderAt bytes i .price)) (inRange (orderAt bytes i .size)) (a .0) in
+    let d = or-no (notPositive (entryAt bids bytes i)) (someNotPositive (entriesFrom bids bytes (i + 1) k)) p in
+    let e = or-no (eqb (natOf (orderAt bytes i .price)) 0) (eqb (natOf (orderAt bytes i .size)) 0) (d .0) in
+    or-both _ _
+    (or-both _ _
+    (or-both _ _ (e .0) (le-ltb amountLimit (natOf (orderAt bytes i .price)) (in-range-most (orderAt bytes i .price) (b .0))))
+    (or-both _ _ (e .1) (le-ltb amountLimit (natOf (orderAt bytes i .size)) (in-range-most (orderAt bytes i .size) (b .1)))))
+    (ranged bids bytes (i + 1) k (a .1) (d .1))
+
+read-ranged : (bytes : List ℕ) (s : L3Snapshot) → readSnapshot bytes ≡ Snapshot s → ordersInRange (ordersFrom bytes 0 (s .bids + s .asks)) ≡ true
+unfolding readSnapshot snapshotOf
+read-ranged bytes s h = go (snapshotShaped bytes) (ordersInRange (ordersFrom bytes 0 (bidsAt bytes + asksAt bytes))) refl h
+  where
+    found : L3Snapshot
+    found = record { «product_id» = productIdAt bytes 1; sequence = wordAt bytes 17; bids = bidsAt bytes; asks = asksAt bytes }
+
+    go : (x y : Bool) → ordersInRange (ordersFrom bytes 0 (bidsAt bytes + asksAt bytes)) ≡ y
+        → cond x (cond y (Snapshot found) (Refused pieces.OutOfRange)) (Refused pieces.NotAPiece) ≡ Snapshot s
+        → ordersInRange (ordersFrom bytes 0 (s .bids + s .asks)) ≡ true
+    go false y e q = let z : _≡_ {A = ℕ} 0 1 = cc in absurd (omega arith)
+    go true false e q = let z : _≡_ {A = ℕ} 0 1 = cc in absurd (omega arith)
+    go true true e q =
+        let f : found ≡ s = cc in
+        ap (λ (t : L3Snapshot). ordersInRange (ordersFrom bytes 0 (t .bids + t .asks))) (sym f) ∙ e
+
+-- ---- 10 to 14
+
+fits : (bytes : List ℕ) (s : L3Snapshot) (b : BookReconstructor) → readSnapshot bytes ≡ Snapshot s
+    → snapshotRefusal (b .«product_id») (b .rules) s (snapshotLine s bytes) ≡ none
+    → SnapshotFits (b .rules .«max_orders») (b .rules .«max_levels») (snapshotLine s bytes)
+unfolding snapshotRefusal lineRefusal
+fits bytes s b r h =
+    let few = few-orders (b .«product_id») (b .rules) s (snapshotLine s bytes) h in
+    let k = has-passed (b .rules .«max_levels») [] (snapshotLine s bytes) _ (passed _ _ _ (passed _ _ _ h .1) .1) refl (omega arith) in
+    let p : someNotPositive (entriesFrom (s .bids) bytes 0 (s .bids + s .asks)) ≡ false = ap someNotPositive (sym (line-places s bytes)) ∙ k .positive in
+    record {
+      few = omega (arith, length-snapshot s bytes, few);
+      sound = ap someOutOfRange (line-places s bytes) ∙ ranged (s .bids) bytes 0 (s .bids + s .asks) (read-ranged bytes s r) p;
+      single = k .single;
+      flat = k .flat;
+      apart = passed _ _ _ (k .end) .0;
+    }
+
+-- ---- acceptance
+
+-- a snapshot that meets no number
+pub record Accepted (top : ℕ) (b : BookReconstructor) (ws sg bytes : List ℕ) : Type 0 where
+  pub snapshot : L3Snapshot
+  pub is : bootstrapped top b ws sg bytes ≡ accepted b ws sg (snapshot .sequence) (snapshotLine snapshot bytes)
+  pub before : Usable top b ws sg
+  pub room : b .segments < length sg / 8
+  pub fits : SnapshotFits (b .rules .«max_orders») (b .rules .«max_levels») (snapshotLine snapshot bytes)
+
+abbrev pub refusalOf : ℕ → BookReconstructor → List ℕ → List ℕ → List ℕ → Option SnapshotAnswer
+refusalOf top b ws sg bytes = bootRefusal top (b .«product_id») (b .rules) (lengthsOf ws sg) (broken b ws) (viewOf b ws sg) bytes
+
+pub is-accepted : (top : ℕ) (b : BookReconstructor) (ws sg bytes : List ℕ) → refusalOf top b ws sg bytes ≡ none → Accepted top b ws sg bytes
+unfolding bootRefusal acceptRefusal
+is-accepted top b ws sg bytes h = go (readSnapshot bytes) refl (first-passed _ _ _ h .1)
+  where
+    own : bookRefusal top b ws sg ≡ none
+    own = first-passed _ _ _ h .0
+
+    u : Usable top b ws sg
+    u = usable top b ws sg own
+
+    go : (r : ReadSnapshot) → readSnapshot bytes ≡ r → pieceRefusal (b .«product_id») (b .rules) (lengthsOf ws sg) (viewOf b ws sg) r bytes ≡ none → Accepted top b ws sg bytes
+    go (Refused e) q k = let z : _≡_ {A = ℕ} 0 1 = cc in absurd (omega arith)
+    go (Snapshot s) q k =
+        let full = passed _ _ _ k in
+        let vetted = first-passed _ _ _ (full .1) in
+        let differ : length sg / 8 ≡ b .segments → ⊥ = eqb-false (length sg / 8) (b .segments) (full .0) in
+        record {
+          snapshot = s;
+          is = sym (read top b ws sg bytes own s q) ∙ rw k;
+          before = u;
+          room = omega (arith, differ, segments-lent b ws sg (u .lent));
+          fits = fits bytes s b q (vetted .0);
+        }
+
+-- writing a record keeps the list's length
+length-set-segment : (sg : List ℕ) (i : ℕ) (g : Segment) → 8 * i + 8 ≤ length sg → length (setSegment sg i g) ≡ length sg
+unfolding setSegment
+length-set-segment sg i g h = splice-length sg (segmentWords g) (8 * i) (8 * i + 8) refl h
+
+length-closed : (st : Status) (sg : List ℕ) (n : ℕ) → 8 * n ≤ length sg → ((last : ℕ) → st ≡ Valid last → 0 < n) → length (closed st sg n) ≡ length sg
+unfolding closed
+length-closed Empty sg n h p = refl
+length-closed (Valid last) sg n h p = length-set-segment sg (n - 1) (superseded (segmentAt sg (n - 1))) (let q = p last refl in omega arith)
+length-closed (Invalidated i) sg n h p = refl
+
+-- the rows that it leaves are well formed
+pub accepted-formed : (top : ℕ) (b : BookReconstructor) (ws sg bytes : List ℕ) → refusalOf top b ws sg bytes ≡ none
+    → WellFormed (b .rules .«max_orders») (b .rules .«max_levels») (rowsOf (bootstrapped top b ws sg bytes .rows) (bootstrapped top b ws sg bytes .book .rows))
+accepted-formed top b ws sg bytes h =
+    let a = is-accepted top b ws sg bytes h in
+    let l = snapshotLine (a .snapshot) bytes in
+    let t = a .snapshot .sequence in
+    let r : rowsOf (stored ws (b .rows) (map (snapshotRow t) l)) (length l) ≡ map (snapshotRow t) l = rw (rows-length t l) at (rows-stored ws (b .rows) (map (snapshotRow t) l)) in
+    rw (a .is, r) (snapshot-kept (b .rules .«max_orders») (b .rules .«max_levels») t l (a .fits))
+
+-- and the state, with what it is lent, passes 1, 2 and 3 at the next call
+pub accepted-usable : (top : ℕ) (b : BookReconstructor) (ws sg bytes : List ℕ) → refusalOf top b ws sg bytes ≡ none
+    → Usable top (bootstrapped top b ws sg bytes .book) (bootstrapped top b ws sg bytes .rows) (bootstrapped top b ws sg bytes .segments)
+accepted-usable top b ws sg bytes h =
+    let a = is-accepted top b ws sg bytes h in
+    let l : List Entry = snapshotLine (a .snapshot) bytes in
+    let t = a .snapshot .sequence in
+    let os : List Resting = map (snapshotRow t) l in
+    let n : length os ≡ length l = rows-length t l in
+    let s = sound b ws (a .before .sound) in
+    let m = rows-lent b ws sg (a .before .lent) in
+    let r : rowsOf (stored ws (b .rows) os) (length l) ≡ os = rw n at (rows-stored ws (b .rows) os) in
+    let c = length-closed (b .status) sg (b .segments) (omega (arith, a .room)) (λ last e. has-segment b last e (s .set)) in
+    let d = length-set-segment (closed (b .status) sg (b .segments)) (b .segments) (started t) (omega (arith, a .room, c)) in
+    let f = length-stored ws (b .rows) os (omega (arith, s .few)) (omega (arith, a .fits .few)) in
+    rw (a .is)
+    (record {
+      within = a .before .within;
+      lent = or-both _ _ (le-ltb (length (stored ws (b .rows) os)) (8 * b .rules .«max_orders») (omega (arith, f, m)))
+          (le-ltb (length (segmentAdded (b .status) sg (b .segments) t) / 8) (b .segments + 1) (omega (arith, c, d, a .room)));
+      sound = kept (bootedBook b t (length l)) (stored ws (b .rows) os) os r n
+          (snapshot-kept (b .rules .«max_orders») (b .rules .«max_levels») t l (a .fits))
+          (ne-eqb (b .segments + 1) 0 (λ z. omega (arith, z)));
+    })
+
+-- ---- refusal
+
+-- 01, bootstrap: "leave all else; a valid book stays valid"; no lent word changes
+pub record Untouched (b : BookReconstructor) (ws sg : List ℕ) (p : Parts) : Type 0 where
+  pub rows : p .rows ≡ ws
+  pub segments : p .segments ≡ sg
+  pub status : p .book .status ≡ b .status
+  pub rules : p .book .rules ≡ b .rules
+  pub count : p .book .rows ≡ b .rows
+  pub listed : p .book .segments ≡ b .segments
+
+-- a refusal changes the counts at most
+counts-alone : (x : SnapshotAnswer) (b : BookReconstructor) → refusedBook x b ≡ withCounts b (refusedBook x b .counts)
+counts-alone Bootstrapped b = refl
+counts-alone (Unusable e) b = refl
+counts-alone NotAPiece b = refl
+counts-alone AmountOutOfRange b = refl
+counts-alone ListFull b = refl
+counts-alone (Rejected e) b = refl
+
+pub refused-is : (top : ℕ) (b : BookReconstructor) (ws sg bytes : List ℕ) (x : SnapshotAnswer) → refusalOf top b ws sg bytes ≡ some x
+    → bootstrapped top b ws sg bytes ≡ refused x b ws sg
+unfolding bootstrapped
+refused-is top b ws sg bytes x h = sym (settled-some b ws sg (taken (readSnapshot bytes) b ws sg bytes) h)
+
+pub refused-keeps : (top : ℕ) (b : BookReconstructor) (ws sg bytes : List ℕ) (x : SnapshotAnswer) → refusalOf top b ws sg bytes ≡ some x
+    → Untouched b ws sg (bootstrapped top b ws sg bytes)
+refused-keeps top b ws sg bytes x h =
+    let e : refusedBook x b ≡ withCounts b (refusedBook x b .counts) = counts-alone x b in
+    rw (refused-is top b ws sg bytes x h)
+    (record {
+      rows = refl;
+      segments = refl;
+      status = ap (λ (k : BookReconstructor). k .status) e;
+      rules = ap (λ (k : BookReconstructor). k .rules) e;
+      count = ap (λ (k : BookReconstructor). k .rows) e;
+      listed = ap (λ (k : BookReconstructor). k .segments) e;
+    })
+
+-- a usable state stays usable
+pub refused-usable : (top : ℕ) (b : BookReconstructor) (ws sg bytes : List ℕ) (x : SnapshotAnswer) → refusalOf top b ws sg bytes ≡ some x → Usable top b ws sg
+    → Usable top (bootstrapped top b ws sg bytes .book) (bootstrapped top b ws sg bytes .rows) (bootstrapped top b ws sg bytes .segments)
+unfolding broken
+refused-usable top b ws sg bytes x h u =
+    rw (refused-is top b ws sg bytes x h, counts-alone x b) (record { within = u .within; lent = u .lent; sound = u .sound })
+
+-- ---- number 0 is acceptance
+
+module _ {B : Type 0} (P : B → Type 0) where
+  check-all : (t : Bool) (d : B) (k : Option B) (x : B) → P d → (k ≡ some x → P x) → check t d k ≡ some x → P x
+  unfolding check
+  check-all true d k x p q h = let e : d ≡ x = cc in subst P e p
+  check-all false d k x p q h = q h
+
+  first-all : {A : Type 0} (o : Option A) (f : A → B) (k : Option B) (x : B) → ((y : A) → P (f y)) → (k ≡ some x → P x) → first o f k ≡ some x → P x
+  unfolding first
+  first-all (some y) f k x p q h = let e : f y ≡ x = cc in subst P e (p y)
+  first-all none f k x p q h = q h
+
+abbrev Turned : SnapshotAnswer → Type 0
+Turned x = 0 < snapshotNumber x
+
+state-turned : (e : StateError) → Turned (Unusable e)
+state-turned LimitAboveCeiling = lit< tt
+state-turned LentTooShort = lit< tt
+state-turned MalformedBook = lit< tt
+
+snapshot-turned : (e : SnapshotError) → Turned (Rejected e)
+snapshot-turned WrongProduct = lit< tt
+snapshot-turned DuplicateId = lit< tt
+snapshot-turned InvalidValue = lit< tt
+snapshot-turned Crossed = lit< tt
+snapshot-turned CapacityExceeded = lit< tt
+
+piece-turned : (e : PieceError) → Turned (pieceAnswer e)
+piece-turned pieces.NotAPiece = lit< tt
+piece-turned pieces.OutOfRange = lit< tt
+
+no-more : (x : SnapshotAnswer) → _≡_ {A = Option SnapshotAnswer} none (some x) → Turned x
+no-more x q = let z : _≡_ {A = ℕ} 0 1 = cc in absurd (omega arith)
+
+refusal-turned : (top : ℕ) (b : BookReconstructor) (ws sg bytes : List ℕ) (x : SnapshotAnswer) → refusalOf top b ws sg bytes ≡ some x → Turned x
+unfolding bootRefusal acceptRefusal
+refusal-turned top b ws sg bytes x h = first-all Turned _ Unusable _ x state-turned (go (readSnapshot bytes)) h
+  where
+    go : (r : ReadSnapshot) → pieceRefusal (b .«product_id») (b .rules) (lengthsOf ws sg) (viewOf b ws sg) r bytes ≡ some x → Turned x
+    go (Refused e) q = let d : pieceAnswer e ≡ x = cc in subst Turned d (piece-turned e)
+    go (Snapshot s) q = check-all Turned _ ListFull _ x (lit< tt) (first-all Turned _ Rejected none x snapshot-turned (no-more x)) q
+
+pub zero-accepts : (top : ℕ) (b : BookReconstructor) (ws sg bytes : List ℕ) → snapshotNumber (bootstrapped top b ws sg bytes .answer) ≡ 0 → refusalOf top b ws sg bytes ≡ none
+zero-accepts top b ws sg bytes h = go (refusalOf top b ws sg bytes) refl
+  where
+    go : (o : Option SnapshotAnswer) → refusalOf top b ws sg bytes ≡ o → o ≡ none
+    go none q = refl
+    go (some x) q =
+        let e = ap (λ (p : Parts). snapshotNumber (p .answer)) (refused-is top b ws sg bytes x q) in
+        absurd (omega (arith, e, h, refusal-turned top b ws sg bytes x q))

@@ -1,0 +1,4 @@
+pub mod Numbers
+pub mod Snapshot
+pub mod Bootstrap
+pub mod Places

@@ -1,0 +1,439 @@
+// `bootstrap`: a snapshot piece takes the place of the book, or is turned away and leaves it as it was.
+use book::Found;
+use book::Resting;
+use message::L3Side;
+use message::L3Snapshot;
+use message::OrderId;
+use message::ProductId;
+use piece::PieceError;
+use piece::ReadSnapshot;
+use reconstructor_checks::Checked;
+use reconstructor_state::BookReconstructor;
+use reconstructor_state::Segment;
+use reconstructor_state::StateError;
+use reconstructor_state::Status;
+use reconstructor_state::VenueRules;
+ghost use mathlib.Core.Path.{_≡_};
+ghost use mathlib.Core.Bool.{cond};
+ghost use Prim.Native.Nat.{ℕ, _+_, _*_, _≤_, _<_};
+ghost use lib.Dec.{ltb};
+ghost use lib.ListN.{length};
+ghost use Rattle.book.specs.Line.{rests, hasLevel};
+ghost use Rattle.book.specs.Rows.{Lent, ceiling, rowsOf, lineOf, idOf, sideOf, stored, snapshotKind, snapshotRow};
+ghost use Rattle.reconstructor_checks.specs.Own.{Usable};
+ghost use Rattle.reconstructor_bootstrap.specs.Numbers.{snapshotErrorNumber, snapshotNumber};
+ghost use Rattle.reconstructor_bootstrap.specs.Snapshot.{snapshotLine, lineRefusal, snapshotRefusal, pieceAnswer};
+ghost use Rattle.reconstructor_bootstrap.specs.Bootstrap.{leaves, refusedBook, bootedBook, closed, accepted, snapshotSettled, bootstrapped, validated};
+ghost use Rattle.reconstructor_bootstrap.specs.Places.{sideAt, entryAt, entriesFrom, rowsAt, Room};
+
+// Why a snapshot is refused, and counted so. 10 to 14.
+pub enum SnapshotError {
+    WrongProduct,
+    // The same id twice.
+    DuplicateId,
+    // A price or size that is not positive.
+    InvalidValue,
+    // Bids at or above asks.
+    Crossed,
+    // More orders or levels than the rules allow.
+    CapacityExceeded,
+}
+
+// The answer of `bootstrap`: the snapshot is the book now, or 1 to 6, or 10 to 14.
+pub enum SnapshotAnswer {
+    Bootstrapped,
+    Unusable(StateError),
+    NotAPiece,
+    AmountOutOfRange,
+    // No room for one more segment record.
+    ListFull,
+    Rejected(SnapshotError),
+}
+
+// What a validation finds.
+enum Validated {
+    Fits,
+    Refused(SnapshotError),
+}
+
+pub struct Reply {
+    pub book: BookReconstructor,
+    pub answer: SnapshotAnswer,
+}
+
+impl SnapshotError {
+    // Its number in 01's table.
+    pub fn number(self) -> u64
+        ensures { λ r. ⌜ r ≡ snapshotErrorNumber self ⌝ }
+    {
+        match self {
+            SnapshotError::WrongProduct => 10,
+            SnapshotError::DuplicateId => 11,
+            SnapshotError::InvalidValue => 12,
+            SnapshotError::Crossed => 13,
+            SnapshotError::CapacityExceeded => 14,
+        }
+    }
+}
+
+impl SnapshotAnswer {
+    // 0 for an accepted snapshot.
+    pub fn number(self) -> u64
+        ensures { λ r. ⌜ r ≡ snapshotNumber self ⌝ }
+    {
+        match self {
+            SnapshotAnswer::Bootstrapped => 0,
+            SnapshotAnswer::Unusable(why) => why.number(),
+            SnapshotAnswer::NotAPiece => 4,
+            SnapshotAnswer::AmountOutOfRange => 5,
+            SnapshotAnswer::ListFull => 6,
+            SnapshotAnswer::Rejected(why) => why.number(),
+        }
+    }
+}
+
+// ---- the snapshot's orders as rows
+
+// Bids stand before asks.
+fn side_at(bids: usize, place: usize) -> L3Side
+    ensures { λ r. ⌜ r ≡ sideAt bids place ⌝ }
+{
+    if place < bids {
+        L3Side::Buy
+    } else {
+        L3Side::Sell
+    }
+}
+
+// The kind of a row whose order came in a snapshot.
+fn snapshot_kind(side: L3Side) -> u64
+    ensures { λ r. ⌜ r ≡ snapshotKind side ⌝ }
+{
+    match side {
+        L3Side::Buy => 0,
+        L3Side::Sell => 1,
+    }
+}
+
+// The row of the order at a place. An amount that is not positive becomes 0, which number 12 names.
+fn snapshot_row(bytes: &[u8], bids: usize, place: usize, sequence: u64) -> Resting
+    ensures { λ r. ⌜ r ≡ snapshotRow sequence (entryAt bids (now (bytes .entry)) place) ⌝ }
+{
+    let order = piece::snapshot_order(bytes, place);
+    let id = order.order_id;
+    Resting {
+        high: id.high,
+        low: id.low,
+        price: message::amount::size_of(order.price),
+        remaining: message::amount::size_of(order.size),
+        kind: snapshot_kind(side_at(bids, place)),
+        entered_at: sequence,
+        decreased: 0,
+        decreased_at: 0,
+    }
+}
+
+// Writes the first `n` orders as rows, and zeroes the `former` rows beyond them.
+fn store_rows(rows: &mut [u64], former: usize, bytes: &[u8], bids: usize, n: usize, sequence: u64)
+    requires { ⌜ Room (now rows) former n ⌝ }
+    ensures { λ _. ⌜ now (rows .exit) ≡ stored (now (rows .entry)) former (rowsAt bids (now (bytes .entry)) n sequence) ⌝ }
+{
+    let mut i: usize = 0;
+    while i < n {
+        let order = snapshot_row(bytes, bids, i, sequence);
+        book::set_row(rows, i, order);
+        i += 1;
+    }
+    let empty = Resting {
+        high: 0,
+        low: 0,
+        price: 0,
+        remaining: 0,
+        kind: 0,
+        entered_at: 0,
+        decreased: 0,
+        decreased_at: 0,
+    };
+    let mut k = n;
+    while k < former {
+        book::set_row(rows, k, empty);
+        k += 1;
+    }
+}
+
+// ---- 11 to 14, order by order
+
+// Whether one of the first `i` rows has the id of `order`.
+fn id_rests(rows: &[u64], i: usize, order: Resting) -> bool
+    requires { ⌜ Lent (now rows) i ⌝ }
+    ensures { λ r. ⌜ r ≡ rests (idOf order) (lineOf (rowsOf (now (rows .entry)) i)) ⌝ }
+{
+    let id = OrderId {
+        high: order.high,
+        low: order.low,
+    };
+    let Found::At(_) = book::find(rows, i, id) else {
+        return false;
+    };
+    true
+}
+
+// How many levels `order` adds to those of the first `i` rows.
+fn levels_added(rows: &[u64], i: usize, order: Resting) -> usize
+    requires { ⌜ Lent (now rows) i ⌝ }
+    ensures { λ r. ⌜ (r ≡ cond (hasLevel (sideOf (order .kind)) (order .price) (lineOf (rowsOf (now (rows .entry)) i))) 0 1) × (r ≤ 1) ⌝ }
+{
+    if book::has_level(rows, i, book::side_of(order.kind), order.price) {
+        0
+    } else {
+        1
+    }
+}
+
+// The number of the first order that is turned away, or 13: the plain search, each order against those before it.
+fn vet_rows(rows: &[u64], n: usize, max_levels: usize) -> Validated
+    requires { ⌜ Lent (now rows) n ⌝ }
+    ensures { λ r. ⌜ r ≡ validated (lineRefusal «max_levels» (lineOf (rowsOf (now (rows .entry)) n))) ⌝ }
+{
+    let mut levels: usize = 0;
+    let mut i: usize = 0;
+    while i < n {
+        let order = book::get_row(rows, i);
+        if id_rests(rows, i, order) {
+            return Validated::Refused(SnapshotError::DuplicateId);
+        }
+        if (order.price == 0) | (order.remaining == 0) {
+            return Validated::Refused(SnapshotError::InvalidValue);
+        }
+        let added = levels_added(rows, i, order);
+        if (added == 1) & (max_levels <= levels) {
+            return Validated::Refused(SnapshotError::CapacityExceeded);
+        }
+        levels += added;
+        i += 1;
+    }
+    if book::meet(book::best_bid(rows, n), book::best_ask(rows, n)) {
+        return Validated::Refused(SnapshotError::Crossed);
+    }
+    Validated::Fits
+}
+
+// The same: rows that number 3 does not name, which is known in expected linear time, fit; only others are searched.
+fn validate_rows(rows: &[u64], n: usize, max_levels: usize) -> Validated
+    requires { ⌜ Lent (now rows) n ⌝ }
+    ensures { λ r. ⌜ r ≡ validated (lineRefusal «max_levels» (lineOf (rowsOf (now (rows .entry)) n))) ⌝ }
+{
+    if book_valid::rows_broken(rows, n, max_levels) {
+        return vet_rows(rows, n, max_levels);
+    }
+    Validated::Fits
+}
+
+// The orders as rows of an array of its own, small where few orders ask for it: an array is cleared at each call.
+fn validate_128(bytes: &[u8], bids: usize, n: usize, max_levels: usize) -> Validated
+    requires { ⌜ n ≤ 128 ⌝ }
+    ensures { λ r. ⌜ r ≡ validated (lineRefusal «max_levels» (entriesFrom bids (now (bytes .entry)) 0 n)) ⌝ }
+{
+    let mut rows = [0u64; 1024];
+    store_rows(&mut rows, 0, bytes, bids, n, 0);
+    validate_rows(&rows, n, max_levels)
+}
+
+fn validate_512(bytes: &[u8], bids: usize, n: usize, max_levels: usize) -> Validated
+    requires { ⌜ n ≤ 512 ⌝ }
+    ensures { λ r. ⌜ r ≡ validated (lineRefusal «max_levels» (entriesFrom bids (now (bytes .entry)) 0 n)) ⌝ }
+{
+    let mut rows = [0u64; 4096];
+    store_rows(&mut rows, 0, bytes, bids, n, 0);
+    validate_rows(&rows, n, max_levels)
+}
+
+fn validate_4096(bytes: &[u8], bids: usize, n: usize, max_levels: usize) -> Validated
+    requires { ⌜ n ≤ ceiling ⌝ }
+    ensures { λ r. ⌜ r ≡ validated (lineRefusal «max_levels» (entriesFrom bids (now (bytes .entry)) 0 n)) ⌝ }
+{
+    let mut rows = [0u64; 32768];
+    store_rows(&mut rows, 0, bytes, bids, n, 0);
+    validate_rows(&rows, n, max_levels)
+}
+
+fn validate_orders(bytes: &[u8], bids: usize, n: usize, max_levels: usize) -> Validated
+    requires { ⌜ n ≤ ceiling ⌝ }
+    ensures { λ r. ⌜ r ≡ validated (lineRefusal «max_levels» (entriesFrom bids (now (bytes .entry)) 0 n)) ⌝ }
+{
+    if n <= 128 {
+        return validate_128(bytes, bids, n, max_levels);
+    }
+    if n <= 512 {
+        return validate_512(bytes, bids, n, max_levels);
+    }
+    validate_4096(bytes, bids, n, max_levels)
+}
+
+// Whether the orders are more than the limit. Their sum is not formed before it is known to fit.
+fn over_limit(max_orders: usize, bids: usize, asks: usize) -> bool
+    ensures { λ r. ⌜ r ≡ ltb «max_orders» (bids + asks) ⌝ }
+{
+    if max_orders < bids {
+        return true;
+    }
+    max_orders - bids < asks
+}
+
+// 10 to 14.
+fn validate_snapshot(
+    product: ProductId,
+    rules: VenueRules,
+    bytes: &[u8],
+    snapshot: L3Snapshot,
+) -> Validated
+    requires { ⌜ rules .«max_orders» ≤ ceiling ⌝ }
+    ensures { λ r. ⌜ r ≡ validated (snapshotRefusal product rules snapshot (snapshotLine snapshot (now (bytes .entry)))) ⌝ }
+{
+    if !message::same_product(snapshot.product_id, product) {
+        return Validated::Refused(SnapshotError::WrongProduct);
+    }
+    if over_limit(rules.max_orders, snapshot.bids, snapshot.asks) {
+        return Validated::Refused(SnapshotError::CapacityExceeded);
+    }
+    validate_orders(
+        bytes,
+        snapshot.bids,
+        snapshot.bids + snapshot.asks,
+        rules.max_levels,
+    )
+}
+
+// ---- the call
+
+fn piece_answer(error: PieceError) -> SnapshotAnswer
+    ensures { λ r. ⌜ r ≡ pieceAnswer error ⌝ }
+{
+    match error {
+        PieceError::NotAPiece => SnapshotAnswer::NotAPiece,
+        PieceError::OutOfRange => SnapshotAnswer::AmountOutOfRange,
+    }
+}
+
+// A snapshot that 10 to 14 turn away is counted, and changes nothing else.
+fn rejected(book: BookReconstructor, error: SnapshotError) -> Reply
+    ensures { λ r. ⌜ (r .book ≡ refusedBook (SnapshotAnswer.Rejected error) book) × (r .answer ≡ SnapshotAnswer.Rejected error) ⌝ }
+{
+    let counts = book.counts;
+    Reply {
+        book: book.with_counts(counts.rejected_snapshot()),
+        answer: SnapshotAnswer::Rejected(error),
+    }
+}
+
+// Ends the last of `n` segments as superseded, if it is still open: while the book is valid.
+fn close_last(segments: &mut [u64], status: Status, n: usize)
+    requires { ⌜ 8 * n ≤ length (now segments) ⌝ }
+    requires { ⌜ ((last : ℕ) → status ≡ Status.Valid last → 0 < n) ⌝ }
+    ensures { λ _. ⌜ now (segments .exit) ≡ closed status (now (segments .entry)) n ⌝ }
+{
+    match status {
+        Status::Empty => {}
+        Status::Valid { .. } => {
+            let last = reconstructor_state::get_segment(segments, n - 1);
+            reconstructor_state::set_segment(segments, n - 1, last.superseded());
+        }
+        Status::Invalidated(_) => {}
+    }
+}
+
+// The state at the snapshot's sequence, with its `n` orders and one segment more.
+fn booted(book: BookReconstructor, sequence: u64, n: usize) -> BookReconstructor
+    requires { ⌜ book .segments + 1 < 18446744073709551616 ⌝ }
+    ensures { λ r. ⌜ r ≡ bootedBook book sequence n ⌝ }
+{
+    let product_id = book.product_id;
+    let rules = book.rules;
+    let counts = book.counts;
+    BookReconstructor {
+        product_id,
+        rules,
+        number: book.number,
+        status: Status::Valid { last_seq: sequence },
+        rows: n,
+        segments: book.segments + 1,
+        counts,
+    }
+}
+
+// Takes the snapshot for the book.
+fn accept(
+    book: BookReconstructor,
+    rows: &mut [u64],
+    segments: &mut [u64],
+    bytes: &[u8],
+    snapshot: L3Snapshot,
+) -> Reply
+    requires { ⌜ Room (now rows) (book .rows) (snapshot .bids + snapshot .asks) ⌝ }
+    requires { ⌜ 8 * book .segments + 8 ≤ length (now segments) ⌝ }
+    requires { ⌜ ((last : ℕ) → book .status ≡ Status.Valid last → 0 < book .segments) ⌝ }
+    ensures { λ r. ⌜ leaves r (now (rows .exit)) (now (segments .exit)) ≡ accepted book (now (rows .entry)) (now (segments .entry)) (snapshot .sequence) (snapshotLine snapshot (now (bytes .entry))) ⌝ }
+{
+    let n = snapshot.bids + snapshot.asks;
+    let status = book.status;
+    let count = book.segments;
+    let next = booted(book, snapshot.sequence, n);
+    store_rows(rows, book.rows, bytes, snapshot.bids, n, snapshot.sequence);
+    close_last(segments, status, count);
+    reconstructor_state::set_segment(segments, count, Segment::started(snapshot.sequence));
+    Reply {
+        book: next,
+        answer: SnapshotAnswer::Bootstrapped,
+    }
+}
+
+// 6, 10 to 14, of a state that passed 1, 2 and 3.
+fn bootstrap_usable(
+    book: BookReconstructor,
+    rows: &mut [u64],
+    segments: &mut [u64],
+    bytes: &[u8],
+    snapshot: L3Snapshot,
+) -> Reply
+    requires { ⌜ Usable ceiling book (now rows) (now segments) ⌝ }
+    ensures { λ r. ⌜ leaves r (now (rows .exit)) (now (segments .exit)) ≡ snapshotSettled book (now (rows .entry)) (now (segments .entry)) (now (bytes .entry)) snapshot ⌝ }
+{
+    if segments.len() / 8 == book.segments {
+        return Reply {
+            book,
+            answer: SnapshotAnswer::ListFull,
+        };
+    }
+    let product = book.product_id;
+    let rules = book.rules;
+    match validate_snapshot(product, rules, bytes, snapshot) {
+        Validated::Fits => accept(book, rows, segments, bytes, snapshot),
+        Validated::Refused(error) => rejected(book, error),
+    }
+}
+
+// Takes the snapshot piece for the book, or says by which number it is turned away. A refused snapshot leaves the book, the rows and the segment
+// list as they were, but for the count of 10 to 14.
+pub fn bootstrap(
+    book: BookReconstructor,
+    rows: &mut [u64],
+    segments: &mut [u64],
+    bytes: &[u8],
+) -> Reply
+    ensures { λ r. ⌜ leaves r (now (rows .exit)) (now (segments .exit)) ≡ bootstrapped ceiling book (now (rows .entry)) (now (segments .entry)) (now (bytes .entry)) ⌝ }
+{
+    let checked = reconstructor_checks::own_checks(book, rows, segments);
+    if let Checked::Refused(why) = checked {
+        return Reply {
+            book,
+            answer: SnapshotAnswer::Unusable(why),
+        };
+    }
+    match piece::read_snapshot(bytes) {
+        ReadSnapshot::Snapshot(snapshot) => bootstrap_usable(book, rows, segments, bytes, snapshot),
+        ReadSnapshot::Refused(error) => Reply {
+            book,
+            answer: piece_answer(error),
+        },
+    }
+}

@@ -1,0 +1,119 @@
+-- What a state that passed 1, 2 and 3 has.
+-- Assumes nothing.
+use Prim.Native.Nat.{ℕ, _*_, _/_, _≤_, _<_}
+use mathlib.Core.Path.{_≡_, refl, sym, ap, _∙_}
+use mathlib.Core.Bool.{false, _||_}
+use mathlib.Core.List.{List}
+use mathlib.Core.Option.{Option, none, some}
+use native.Mathlib.Omega.{arith}
+use borrow.Author.Tests.{ltb-false, eqb-false, le-ltb}
+use lib.Dec.{ltb}
+use lib.ListN.{length}
+use Rattle.book.specs.declared.Resting.{Resting}
+use Rattle.book.specs.Rows.{ceiling, rowsOf, Lent}
+use Rattle.book.specs.Broken.{rowsBroken, wordsBroken, WellFormed}
+use Rattle.reconstructor_state.specs.declared.VenueRules.{VenueRules}
+use Rattle.reconstructor_state.specs.declared.Status.the-variants.{Valid}
+use Rattle.reconstructor_state.specs.declared.StateError.{StateError}
+use Rattle.reconstructor_state.specs.declared.BookReconstructor.{BookReconstructor}
+use Rattle.reconstructor_state.specs.State.{viewOf, lengthsOf}
+use Rattle.reconstructor_checks.specs.declared.Checked.{Checked}
+use Rattle.reconstructor_checks.specs.declared.Checked.the-variants.{Passed, Refused}
+use Rattle.reconstructor_checks.specs.Own.{overCeiling, tooShort, unsettled, broken, stateRefusal, bookRefusal, checked, Usable}
+use Rattle.laws.proofs.Bools.{or-no, or-both}
+use Rattle.book.proofs.Rows.{length-rows}
+use Rattle.book.proofs.Kept.{broken-not, not-broken}
+use Rattle.reconstructor_state.proofs.Checks.{passed, goes-on}
+
+-- ---- the answer, and what it tells
+
+pub says : {o : Option StateError} {e : StateError} → o ≡ some e → Refused e ≡ checked o
+unfolding checked
+says h = sym (ap checked h)
+
+pub says-none : {o : Option StateError} → o ≡ none → Passed ≡ checked o
+unfolding checked
+says-none h = sym (ap checked h)
+
+pub said : (o : Option StateError) (r : Checked) (e : StateError) → r ≡ checked o → r ≡ Refused e → o ≡ some e
+unfolding checked
+said none r e p q = let z : _≡_ {A = ℕ} 0 1 = cc in absurd (omega arith)
+said (some d) r e p q = cc
+
+pub said-none : (o : Option StateError) (r : Checked) → r ≡ checked o → r ≡ Passed → o ≡ none
+unfolding checked
+said-none none r p q = refl
+said-none (some d) r p q = let z : _≡_ {A = ℕ} 0 1 = cc in absurd (omega arith)
+
+-- ---- one check after the other
+
+pub orders-within : (top : ℕ) (v : VenueRules) → overCeiling top v ≡ false → v .«max_orders» ≤ top
+orders-within top v h = ltb-false top (v .«max_orders») (or-no (ltb top (v .«max_orders»)) (ltb top (v .«max_levels»)) h .0)
+
+module _ (b : BookReconstructor) (ws sg : List ℕ) (h : tooShort (b .rules) (lengthsOf ws sg) (viewOf b ws sg) ≡ false) where
+  pub rows-lent : 8 * b .rules .«max_orders» ≤ length ws
+  rows-lent = ltb-false (length ws) (8 * b .rules .«max_orders») (or-no (ltb (length ws) (8 * b .rules .«max_orders»)) (ltb (length sg / 8) (b .segments)) h .0)
+
+  pub segments-lent : b .segments ≤ length sg / 8
+  segments-lent = ltb-false (length sg / 8) (b .segments) (or-no (ltb (length ws) (8 * b .rules .«max_orders»)) (ltb (length sg / 8) (b .segments)) h .1)
+
+-- the test on lent words is the test on rows, once their number is known to fit
+pub words-rows : (ml : ℕ) (ws : List ℕ) (n : ℕ) → n ≤ ceiling → 8 * n ≤ length ws → wordsBroken ml ws n ≡ rowsBroken ml (rowsOf ws n)
+words-rows ml ws n h k = rw (le-ltb ceiling n h, le-ltb (length ws) (8 * n) k)
+
+-- ---- a state that is not broken
+
+pub record Sound (b : BookReconstructor) (ws : List ℕ) : Type 0 where
+  pub few : b .rows ≤ b .rules .«max_orders»
+  pub formed : WellFormed (b .rules .«max_orders») (b .rules .«max_levels») (rowsOf ws (b .rows))
+  pub set : unsettled (b .status) (b .rows) (b .segments) ≡ false
+
+pub sound : (b : BookReconstructor) (ws : List ℕ) → broken b ws ≡ false → Sound b ws
+unfolding broken
+sound b ws h =
+    let os : List Resting = rowsOf ws (b .rows) in
+    let u = unsettled (b .status) (b .rows) (b .segments) in
+    let a = or-no (ltb (b .rules .«max_orders») (b .rows)) (rowsBroken (b .rules .«max_levels») os || u) h in
+    let d = or-no (rowsBroken (b .rules .«max_levels») os) u (a .1) in
+    let f : b .rows ≤ b .rules .«max_orders» = ltb-false (b .rules .«max_orders») (b .rows) (a .0) in
+    record {
+      few = f;
+      formed = broken-not (b .rules .«max_orders») (b .rules .«max_levels») os (omega (arith, f, length-rows ws 0 (b .rows))) (d .0);
+      set = d .1;
+    }
+
+-- and back, for the rows that a call leaves
+pub kept : (b : BookReconstructor) (ws : List ℕ) (os : List Resting) → rowsOf ws (b .rows) ≡ os → length os ≡ b .rows
+    → WellFormed (b .rules .«max_orders») (b .rules .«max_levels») os → unsettled (b .status) (b .rows) (b .segments) ≡ false → broken b ws ≡ false
+unfolding broken
+kept b ws os e n w u =
+    or-both _ _ (le-ltb (b .rules .«max_orders») (b .rows) (omega (arith, w .few)))
+    (or-both _ _ (ap (rowsBroken (b .rules .«max_levels»)) e ∙ not-broken (b .rules .«max_orders») (b .rules .«max_levels») os w) u)
+
+-- ---- the whole
+
+pub usable : (top : ℕ) (b : BookReconstructor) (ws sg : List ℕ) → bookRefusal top b ws sg ≡ none → Usable top b ws sg
+unfolding stateRefusal
+usable top b ws sg h =
+    let h₁ = passed _ _ _ h in
+    let h₂ = passed _ _ _ (h₁ .1) in
+    let h₃ = passed _ _ _ (h₂ .1) in
+    record { within = h₁ .0; lent = h₂ .0; sound = h₃ .0 }
+
+pub usable-none : (top : ℕ) (b : BookReconstructor) (ws sg : List ℕ) → Usable top b ws sg → bookRefusal top b ws sg ≡ none
+unfolding stateRefusal
+usable-none top b ws sg u = goes-on _ _ _ _ (u .within) (goes-on _ _ _ _ (u .lent) (goes-on _ _ _ _ (u .sound) refl))
+
+-- its rows are lent, with room for every permitted order
+pub rows-ready : (b : BookReconstructor) (ws sg : List ℕ) → Usable ceiling b ws sg → Lent ws (b .rows)
+rows-ready b ws sg u =
+    let f = sound b ws (u .sound) .few in
+    let m = orders-within ceiling (b .rules) (u .within) in
+    let r = rows-lent b ws sg (u .lent) in
+    record { room = omega arith; few = omega arith }
+
+-- a valid book has a segment
+pub has-segment : (b : BookReconstructor) (last : ℕ) → b .status ≡ Valid last → unsettled (b .status) (b .rows) (b .segments) ≡ false → 0 < b .segments
+has-segment b last e h =
+    let q : b .segments ≡ 0 → ⊥ = eqb-false (b .segments) 0 (rw e at h) in
+    omega (arith, q)

@@ -1,0 +1,58 @@
+-- The port's own checks of a state: 1, 2 and 3.
+use Prim.Native.Nat.{ℕ, _*_}
+use mathlib.Core.Path.{_≡_}
+use mathlib.Core.Bool.{Bool, false, _||_}
+use mathlib.Core.List.{List}
+use mathlib.Core.Option.{Option, none, some}
+use lib.Dec.{eqb, ltb}
+use Rattle.book.specs.Rows.{rowsOf}
+use Rattle.book.specs.Broken.{rowsBroken}
+use Rattle.reconstructor_state.specs.declared.VenueRules.{VenueRules}
+use Rattle.reconstructor_state.specs.declared.Status.{Status}
+use Rattle.reconstructor_state.specs.declared.Status.the-variants.{Empty, Valid, Invalidated}
+use Rattle.reconstructor_state.specs.declared.StateError.{StateError}
+use Rattle.reconstructor_state.specs.declared.StateError.the-variants.{LimitAboveCeiling, LentTooShort, MalformedBook}
+use Rattle.reconstructor_state.specs.declared.BookReconstructor.{BookReconstructor}
+use Rattle.reconstructor_state.specs.Checks.{check}
+use Rattle.reconstructor_state.specs.State.{View, viewOf, Lengths, lengthsOf}
+use Rattle.reconstructor_checks.specs.declared.Checked.{Checked}
+use Rattle.reconstructor_checks.specs.declared.Checked.the-variants.{Passed, Refused}
+
+-- 1: "an order or level limit above 4,096", the ceiling being an argument
+abbrev pub overCeiling : ℕ → VenueRules → Bool
+overCeiling top v = ltb top (v .«max_orders») || ltb top (v .«max_levels»)
+
+-- 2: "rows under 8 × max_orders words .. or list shorter than the segment count"
+abbrev pub tooShort : VenueRules → Lengths → View → Bool
+tooShort v lent w = ltb (lent .rows) (8 * v .«max_orders») || ltb (lent .segments) (w .segments)
+
+-- 3, of the status: "no segment once bootstrapped; rows or segments before"
+abbrev pub unsettled : Status → ℕ → ℕ → Bool
+unsettled Empty rows segments = ltb 0 rows || ltb 0 segments
+unsettled (Valid last) rows segments = eqb segments 0
+unsettled (Invalidated i) rows segments = eqb segments 0
+
+-- 3: "rows above max_orders", the rows' part, and the status'
+unfoldable pub broken : BookReconstructor → List ℕ → Bool
+broken b ws =
+    ltb (b .rules .«max_orders») (b .rows) ||
+    (rowsBroken (b .rules .«max_levels») (rowsOf ws (b .rows)) || unsettled (b .status) (b .rows) (b .segments))
+
+-- 1, 2, 3 over a view; `three` says whether number 3 arises, which takes more than the view
+unfoldable pub stateRefusal : ℕ → VenueRules → Lengths → Bool → View → Option StateError
+stateRefusal top v lent three w =
+    check (overCeiling top v) LimitAboveCeiling (check (tooShort v lent w) LentTooShort (check three MalformedBook none))
+
+-- of a state with lent rows and a lent list
+abbrev pub bookRefusal : ℕ → BookReconstructor → List ℕ → List ℕ → Option StateError
+bookRefusal top b ws sg = stateRefusal top (b .rules) (lengthsOf ws sg) (broken b ws) (viewOf b ws sg)
+
+unfoldable pub checked : Option StateError → Checked
+checked none = Passed
+checked (some e) = Refused e
+
+-- a state that passes 1, 2 and 3
+pub record Usable (top : ℕ) (b : BookReconstructor) (ws sg : List ℕ) : Type 0 where
+  pub within : overCeiling top (b .rules) ≡ false
+  pub lent : tooShort (b .rules) (lengthsOf ws sg) (viewOf b ws sg) ≡ false
+  pub sound : broken b ws ≡ false

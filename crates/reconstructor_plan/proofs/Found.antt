@@ -1,0 +1,66 @@
+-- A search of the rows, as the rules see it.
+-- Assumes nothing.
+use Prim.Native.Nat.{ℕ}
+use mathlib.Core.Path.{_≡_, refl, sym, ap, _∙_}
+use borrow.Author.Tests.{eqb-true}
+use lib.Dec.{eqb}
+use mathlib.Core.Bool.{Bool, true, false, cond}
+use mathlib.Core.List.{List}
+use mathlib.Core.Option.{none, some}
+use lib.ListN.{length}
+use lib.IntN.{ℤ}
+use mir.Syntax.{w64}
+use mir.Val.{toZ, ofZ, SFits}
+use Rattle.message.specs.declared.OrderId.{OrderId}
+use Rattle.message.specs.Amounts.{natOf}
+use Rattle.book.specs.declared.Found.{Found}
+use Rattle.book.specs.declared.Found.the-variants.{At, Nothing}
+use Rattle.book.specs.declared.Resting.{Resting}
+use Rattle.book.specs.Line.{find, present, rests}
+use Rattle.book.specs.declared.Decrease.{Decrease}
+use Rattle.book.specs.Rows.{rowAt, rowsOf, lineOf, entryOf, findRow, cutRows}
+use Rattle.reconstructor_state.specs.declared.Counter.{Counter}
+use Rattle.reconstructor_state.specs.declared.Applied.the-variants.{BookChanged}
+use Rattle.reconstructor_plan.specs.declared.Plan.the-variants.{Reduce, Remove}
+use Rattle.reconstructor_plan.specs.Plans.{deedOf, cutPlan, PlanFits}
+use Rattle.message.proofs.Signed.{back}
+use Rattle.book.proofs.Rows.{length-rows}
+use Rattle.book.proofs.Kept.{length-line}
+use Rattle.book.proofs.Stored.{FoundAt, found-at, found-none}
+
+-- a size that was computed is the amount's number
+pub sized : {r : ℕ} (x : ℤ) → r ≡ natOf (toZ w64 (ofZ w64 x)) → SFits w64 x → r ≡ natOf x
+sized x e f = e ∙ ap natOf (back x (f .sfits))
+
+module _ (ws : List ℕ) (n : ℕ) (d : OrderId) (r : Found) (e : r ≡ findRow (rowsOf ws n) d 0) where
+  pub at-row : (i : ℕ) → r ≡ At i → FoundAt ws n d i
+  at-row i h = found-at ws n d i (sym e ∙ h)
+
+  pub row-entry : (i : ℕ) (o : Resting) → r ≡ At i → o ≡ rowAt ws i → find d (lineOf (rowsOf ws n)) ≡ some (entryOf o)
+  row-entry i o h q = at-row i h .entry ∙ ap (λ (x : Resting). some (entryOf x)) (sym q)
+
+  pub it-rests : (i : ℕ) → r ≡ At i → rests d (lineOf (rowsOf ws n)) ≡ true
+  it-rests i h = ap present (at-row i h .entry)
+
+  pub no-row : r ≡ Nothing → find d (lineOf (rowsOf ws n)) ≡ none
+  no-row h = found-none (rowsOf ws n) d 0 (sym e ∙ h)
+
+pub line-length : (ws : List ℕ) (n : ℕ) → length (lineOf (rowsOf ws n)) ≡ n
+line-length ws n = length-line (rowsOf ws n) ∙ length-rows ws 0 n
+
+-- ---- a row cut to r, gone at zero
+
+module _ (ws : List ℕ) (n : ℕ) (d : OrderId) (i : ℕ) (f : FoundAt ws n d i) (r : ℕ) (mark : Decrease) (k : Counter) where
+  pub cut-deed : deedOf ws n (cutPlan i r mark k) ≡ record { rows = cutRows d r mark (rowsOf ws n); counter = k; answer = BookChanged }
+  cut-deed = go (eqb r 0) refl
+    where
+      go : (b : Bool) → eqb r 0 ≡ b → deedOf ws n (cond b (Remove i k) (Reduce i r mark k)) ≡ record { rows = cutRows d r mark (rowsOf ws n); counter = k; answer = BookChanged }
+      go true q = let e : r ≡ 0 = eqb-true r 0 q in rw (e, f .gone mark)
+      go false q = rw (f .left r mark q)
+
+  pub cut-fits : PlanFits ws n (cutPlan i r mark k)
+  cut-fits = go (eqb r 0)
+    where
+      go : (b : Bool) → PlanFits ws n (cond b (Remove i k) (Reduce i r mark k))
+      go true = f .inside
+      go false = f .inside
