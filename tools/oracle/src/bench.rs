@@ -1,5 +1,6 @@
 //! The benchmarks of docs/PERFORMANCE.md: the port and the Rust on the same input, from one driver, in one run.
 
+mod apply;
 mod pieces;
 mod rows;
 
@@ -7,6 +8,8 @@ use std::time::Instant;
 
 /// Rounds of each measurement; the best one counts, since other work on the machine only adds.
 const ROUNDS: usize = 7;
+/// Resting orders.
+const SIZES: [usize; 4] = [10, 100, 512, 4_096];
 
 /// The best round's nanoseconds a call.
 fn best(calls: usize, mut call: impl FnMut()) -> f64 {
@@ -25,4 +28,6 @@ pub fn run() {
     pieces::run();
     println!();
     rows::run();
+    println!();
+    apply::run();
 }

@@ -14,7 +14,6 @@ use crate::model::Model;
 use crate::piece::{Product, shape_message};
 use crate::port;
 use crate::reader::message_words;
-use crate::rust::Rust;
 
 const RECORD: usize = 8;
 /// Stand behind each memory, and must stay.
@@ -344,6 +343,20 @@ pub struct Tally {
     pub apply: BTreeMap<u8, u64>,
 }
 
+impl Tally {
+    pub fn add(&mut self, other: &Tally) {
+        self.calls += other.calls;
+        for (sum, part) in [
+            (&mut self.bootstrap, &other.bootstrap),
+            (&mut self.apply, &other.apply),
+        ] {
+            for (&number, &times) in part {
+                *sum.entry(number).or_default() += times;
+            }
+        }
+    }
+}
+
 /// The call as the port can be asked: a handshake's step becomes an `apply`, unless its message is old and would have been dropped.
 fn asked(call: Call, last: u64) -> Option<Call> {
     let Call { book, lent, act } = call;
@@ -355,8 +368,7 @@ fn asked(call: Call, last: u64) -> Option<Call> {
             }
             Act::Apply { piece }
         }
-        act if exported(&act) => act,
-        _ => return None,
+        act => act,
     };
     Some(Call { book, lent, act })
 }
@@ -373,16 +385,21 @@ fn take_levels(ours: &mut Answer, judged: &Answer) {
 /// Runs the seed's stream on the port, the model and the Rust until `count` calls were made; all three must agree, the port and the model on every word.
 pub fn compare(seed: u64, count: u64) -> Result<Tally, String> {
     let mut generator = Generator::new(seed);
-    let (mut port, mut model, mut rust) = (Ported::new(), Model::new(), Rust::new());
+    let (mut port, mut model) = (Ported::new(), Model::new());
     let mut last: BTreeMap<u8, u64> = BTreeMap::new();
     let mut tally = Tally::default();
     while tally.calls < count {
-        let (call, _) = generator.next_answered();
-        let sequence = last.get(&call.book).copied().unwrap_or(0);
-        let Some(call) = asked(call, sequence) else {
+        let ask = |call: Call| {
+            let sequence = last.get(&call.book).copied().unwrap_or(0);
+            asked(call, sequence)
+        };
+        let Some((call, theirs)) = generator.next_asked(ask) else {
             continue;
         };
-        let (mut ours, theirs, judged) = (port.call(&call), rust.call(&call), model.call(&call));
+        if !exported(&call.act) {
+            continue;
+        }
+        let (mut ours, judged) = (port.call(&call), model.call(&call));
         take_levels(&mut ours, &judged);
         if !ours.agrees(&judged) || !theirs.agrees(&ours) {
             return Err(format!(

@@ -1,17 +1,24 @@
-//! `bootstrap` and `apply` of the port beside the Rust and the model. Built with the feature `port` only; SEED and CALLS give another run.
+//! `bootstrap` and `apply` of the port beside the Rust and the model. Built with the feature `port` only; SEED, STREAMS and CALLS give another run.
+//!
+//! A call costs as much as its book is large, and a stream's books grow. So most calls are made in short streams, and one long
+//! stream fills a book to the ceiling.
 #![cfg(feature = "port")]
 
-use oracle::ported::compare;
+use oracle::ported::{Tally, compare};
+
+/// Calls of a short stream.
+const SHORT: u64 = 4_000;
 
 fn setting(name: &str, default: u64) -> u64 {
     std::env::var(name).map_or(default, |v| v.parse().expect("a number"))
 }
 
-#[test]
-fn the_port_agrees_with_the_rust_and_the_model() {
-    let (seed, calls) = (setting("SEED", 51), setting("CALLS", 100_000));
-    let tally = compare(seed, calls).unwrap_or_else(|difference| panic!("{difference}"));
-    println!("seed {seed}: {tally:?}");
+fn agree(seed: u64, calls: u64) -> Tally {
+    compare(seed, calls).unwrap_or_else(|difference| panic!("{difference}"))
+}
+
+/// Every number that 01 gives the two calls was answered, and most messages were applied.
+fn reaches_every_number(tally: &Tally) {
     for number in [0, 1, 2, 3, 4, 5, 6, 10, 11, 12, 13, 14] {
         assert!(
             tally.bootstrap.contains_key(&number),
@@ -22,5 +29,24 @@ fn the_port_agrees_with_the_rust_and_the_model() {
     for number in [0, 1, 2, 3, 5, 10, 15, 17].into_iter().chain(reasons) {
         assert!(tally.apply.contains_key(&number), "apply says {number}");
     }
-    assert!(tally.apply[&0] > calls / 4, "most messages are applied");
+    assert!(tally.apply[&0] > tally.calls / 4, "messages are applied");
+}
+
+#[test]
+fn short_streams_agree() {
+    let (seed, streams) = (setting("SEED", 51), setting("STREAMS", 225));
+    let mut all = Tally::default();
+    for seed in seed..seed + streams {
+        all.add(&agree(seed, SHORT));
+    }
+    println!("{streams} streams from seed {seed} on: {all:?}");
+    reaches_every_number(&all);
+}
+
+#[test]
+fn a_long_stream_agrees() {
+    let (seed, calls) = (setting("SEED", 51), setting("CALLS", 100_000));
+    let tally = agree(seed, calls);
+    println!("seed {seed}: {tally:?}");
+    reaches_every_number(&tally);
 }

@@ -3,7 +3,7 @@
 use std::collections::{HashMap, HashSet};
 use std::hint::black_box;
 
-use super::best;
+use super::{SIZES, best};
 use crate::call::{Rules, SizeDecrease};
 use crate::generate::random::Random;
 use crate::l3::reconstructor::BookReconstructor;
@@ -12,7 +12,6 @@ use crate::port;
 use crate::rows::sound;
 use crate::rust::convert;
 
-const SIZES: [usize; 4] = [10, 100, 512, 4_096];
 const WORDS: usize = 8;
 const LIMIT: u64 = 1_000_000_000_000_000;
 
