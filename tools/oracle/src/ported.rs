@@ -34,7 +34,7 @@ pub struct Ported {
     books: BTreeMap<u8, Book>,
 }
 
-/// Places in the block, as crate `host` documents them.
+/// Places in the block, as crate `host_words` documents them.
 mod at {
     pub const STATUS: usize = 6;
     pub const LAST: usize = 7;

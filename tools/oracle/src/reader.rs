@@ -152,7 +152,7 @@ fn side_word(side: Side) -> u64 {
     }
 }
 
-/// The fields of an event in order, as crate `host` says that it writes them.
+/// The fields of an event in order, as crate `host_words` says that they are written.
 fn event_words(event: &Event) -> Vec<u64> {
     match *event {
         Event::Received { order_id, side } => {

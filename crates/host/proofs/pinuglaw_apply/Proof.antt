@@ -3,7 +3,7 @@ use lib.ListN.{length}
 use denote.Ref.{now}
 use borrow.Author.Tests.{lt-ltb, le-ltb}
 use borrow.Author.Needs.{needs}
-use Rattle.host.specs.Block.{applyCall, afterApply}
+use Rattle.host.specs.Calls.{applyCall, afterApply}
 use Rattle.host.proofs.pinuglaw_apply.Statement.{statement}
 use Rattle.host.proofs.pinuglaw_apply.Tie as tie
 

@@ -3,7 +3,7 @@ use lib.ListN.{length}
 use denote.Ref.{now}
 use borrow.Author.Tests.{lt-ltb, le-ltb}
 use borrow.Author.Needs.{needs}
-use Rattle.host.specs.Block.{bootstrapCall, afterBootstrap}
+use Rattle.host.specs.Calls.{bootstrapCall, afterBootstrap}
 use Rattle.host.proofs.pinuglaw_bootstrap.Statement.{statement}
 use Rattle.host.proofs.pinuglaw_bootstrap.Tie as tie
 

@@ -4,7 +4,7 @@ use lib.ListN.{length}
 use denote.Ref.{now}
 use borrow.Author.Tests.{lt-ltb, le-ltb}
 use borrow.Author.Needs.{needs}
-use Rattle.host.proofs.Puts.{length-event, two-puts}
+use Rattle.host_words.proofs.Puts.{length-event, two-puts}
 use Rattle.host.proofs.pinuglaw_read_message.Statement.{statement}
 use Rattle.host.proofs.pinuglaw_read_message.Tie as tie
 

@@ -1,0 +1,39 @@
+-- The exported calls on a book: what a call answers and leaves.
+use Prim.Native.Nat.{ℕ}
+use mathlib.Core.List.{List, _++_}
+use mathlib.Core.Bool.{cond}
+use lib.Dec.{ltb}
+use lib.ListN.{length, drop}
+use Rattle.book.specs.Rows.{ceiling}
+use Rattle.host_words.specs.Block.{bookOf, blockOf, messageOf, applyNumber}
+use Rattle.reconstructor.specs.Applied.{Parts, applied}
+use Rattle.reconstructor_bootstrap.specs.Numbers.{snapshotNumber}
+use Rattle.reconstructor_bootstrap.specs.Bootstrap.{Parts as SnapshotParts, bootstrapped}
+
+-- the answer, and the lent words afterwards
+pub record Call : Type 0 where
+  pub number : ℕ
+  pub state : List ℕ
+  pub rows : List ℕ
+  pub segments : List ℕ
+
+abbrev pub called : ℕ → List ℕ → List ℕ → List ℕ → Call
+called k st ws sg = record { number = k; state = st; rows = ws; segments = sg }
+
+-- what the rules leave, written back: the block is the state's, and words past it are untouched. So a refusal leaves the state but may rewrite a
+-- block that was not in the form that `blockOf` gives
+abbrev pub afterApply : List ℕ → Parts → Call
+afterApply st p = called (applyNumber (p .answer)) (blockOf (p .book) ++ drop 27 st) (p .rows) (p .segments)
+
+abbrev pub afterBootstrap : List ℕ → SnapshotParts → Call
+afterBootstrap st p = called (snapshotNumber (p .answer)) (blockOf (p .book) ++ drop 27 st) (p .rows) (p .segments)
+
+-- 7 where fewer than 27 words of state, or fewer than 21 of a message, are lent: nothing is touched. Else the rules of 01
+unfoldable pub applyCall : List ℕ → List ℕ → List ℕ → List ℕ → Call
+applyCall st ws sg m =
+    cond (ltb (length st) 27) (called 7 st ws sg)
+    (cond (ltb (length m) 21) (called 7 st ws sg) (afterApply st (applied ceiling (bookOf st) ws sg (messageOf m))))
+
+unfoldable pub bootstrapCall : List ℕ → List ℕ → List ℕ → List ℕ → Call
+bootstrapCall st ws sg bytes =
+    cond (ltb (length st) 27) (called 7 st ws sg) (afterBootstrap st (bootstrapped ceiling (bookOf st) ws sg bytes))

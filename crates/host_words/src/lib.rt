@@ -1,0 +1,698 @@
+// The values that cross the boundary as words, both ways; specs/Words.antt and specs/Block.antt have the layouts. Crate `host` exports the calls.
+use message::ChangeReason;
+use message::DoneReason;
+use message::L3Event;
+use message::L3Message;
+use message::L3Side;
+use message::OptionalAmount;
+use message::OrderId;
+use message::ProductId;
+use reconstructor_state::Applied;
+use reconstructor_state::ApplyAnswer;
+use reconstructor_state::BookReconstructor;
+use reconstructor_state::Discrepancy;
+use reconstructor_state::Invalidation;
+use reconstructor_state::InvalidationKind;
+use reconstructor_state::MalformedReason;
+use reconstructor_state::MessageCounts;
+use reconstructor_state::SizeDecrease;
+use reconstructor_state::Status;
+use reconstructor_state::VenueRules;
+ghost use mathlib.Core.Path.{_≡_};
+ghost use mathlib.Core.List.{_++_};
+ghost use Prim.Native.Nat.{_+_, _≤_};
+ghost use lib.ListN.{length, take, drop};
+ghost use mir.Syntax.{w64};
+ghost use mir.Val.{ofZ, toZ};
+ghost use Rattle.piece.specs.Piece.{sideOf, doneReasonOf, changeReasonOf};
+ghost use Rattle.piece.specs.Encode.{kindByte, sideByte, doneReasonByte, changeReasonByte, presentBit, optionalWord};
+ghost use Rattle.host_words.specs.Words.{eventWords};
+ghost use Rattle.host_words.specs.Block.{sizeDecreaseOf, reasonOf, discrepancyOf, kindOf, statusOf, rulesOf, countsOf, bookOf, sizeDecreaseWord, kindWords, statusWords, blockOf, optionalOf, receivedOf, openOf, doneOf, matchOf, changeOf, eventOf, messageOf, applyNumber};
+
+// ---- a value as words
+
+// An amount's 64 bits.
+pub fn bits(amount: i64) -> u64
+    ensures { λ r. ⌜ r ≡ ofZ w64 amount ⌝ }
+{
+    if amount < 0 {
+        18446744073709551615 - (!amount as u64)
+    } else {
+        amount as u64
+    }
+}
+
+fn optional_bits(amount: OptionalAmount) -> u64
+    ensures { λ r. ⌜ r ≡ optionalWord amount ⌝ }
+{
+    match amount {
+        OptionalAmount::Absent => 0,
+        OptionalAmount::Given(a) => bits(a),
+    }
+}
+
+fn is_present(amount: OptionalAmount) -> u64
+    ensures { λ r. ⌜ r ≡ presentBit amount ⌝ }
+{
+    match amount {
+        OptionalAmount::Absent => 0,
+        OptionalAmount::Given(_) => 1,
+    }
+}
+
+fn side_word(side: L3Side) -> u64
+    ensures { λ r. ⌜ r ≡ sideByte side ⌝ }
+{
+    match side {
+        L3Side::Buy => 0,
+        L3Side::Sell => 1,
+    }
+}
+
+fn done_reason_word(reason: DoneReason) -> u64
+    ensures { λ r. ⌜ r ≡ doneReasonByte reason ⌝ }
+{
+    match reason {
+        DoneReason::Filled => 0,
+        DoneReason::Canceled => 1,
+    }
+}
+
+fn change_reason_word(reason: ChangeReason) -> u64
+    ensures { λ r. ⌜ r ≡ changeReasonByte reason ⌝ }
+{
+    match reason {
+        ChangeReason::Stp => 0,
+        ChangeReason::ModifyOrder => 1,
+    }
+}
+
+pub fn kind_word(event: L3Event) -> u64
+    ensures { λ r. ⌜ r ≡ kindByte event ⌝ }
+{
+    match event {
+        L3Event::Received { .. } => 1,
+        L3Event::Open { .. } => 2,
+        L3Event::Done { .. } => 3,
+        L3Event::Match { .. } => 4,
+        L3Event::Change { .. } => 5,
+        L3Event::Unsupported { .. } => 6,
+    }
+}
+
+// The fields of an event in the Rust's order, and 0 past the last.
+pub fn event_words(event: L3Event) -> [u64; 16]
+    ensures { λ r. ⌜ r ≡ eventWords event ⌝ }
+{
+    match event {
+        L3Event::Received { order_id, side } => {
+            [
+                order_id.high,
+                order_id.low,
+                side_word(side),
+                0,
+                0,
+                0,
+                0,
+                0,
+                0,
+                0,
+                0,
+                0,
+                0,
+                0,
+                0,
+                0,
+            ]
+        }
+        L3Event::Open {
+            order_id,
+            side,
+            price,
+            remaining,
+        } => {
+            [
+                order_id.high,
+                order_id.low,
+                side_word(side),
+                bits(price),
+                bits(remaining),
+                0,
+                0,
+                0,
+                0,
+                0,
+                0,
+                0,
+                0,
+                0,
+                0,
+                0,
+            ]
+        }
+        L3Event::Done {
+            order_id,
+            side,
+            price,
+            reason,
+            remaining,
+        } => {
+            [
+                order_id.high,
+                order_id.low,
+                side_word(side),
+                is_present(price),
+                optional_bits(price),
+                done_reason_word(reason),
+                is_present(remaining),
+                optional_bits(remaining),
+                0,
+                0,
+                0,
+                0,
+                0,
+                0,
+                0,
+                0,
+            ]
+        }
+        L3Event::Match {
+            maker_id,
+            taker_id,
+            side,
+            price,
+            size,
+        } => {
+            [
+                maker_id.high,
+                maker_id.low,
+                taker_id.high,
+                taker_id.low,
+                side_word(side),
+                bits(price),
+                bits(size),
+                0,
+                0,
+                0,
+                0,
+                0,
+                0,
+                0,
+                0,
+                0,
+            ]
+        }
+        L3Event::Change {
+            order_id,
+            side,
+            reason,
+            price,
+            old_size,
+            new_size,
+            old_price,
+            new_price,
+            new_funds,
+        } => {
+            [
+                order_id.high,
+                order_id.low,
+                side_word(side),
+                change_reason_word(reason),
+                is_present(price),
+                optional_bits(price),
+                is_present(old_size),
+                optional_bits(old_size),
+                is_present(new_size),
+                optional_bits(new_size),
+                is_present(old_price),
+                optional_bits(old_price),
+                is_present(new_price),
+                optional_bits(new_price),
+                is_present(new_funds),
+                optional_bits(new_funds),
+            ]
+        }
+        L3Event::Unsupported { kind } => {
+            [kind as u64, 0, 0, 0, 0, 0, 0, 0, 0, 0, 0, 0, 0, 0, 0, 0]
+        }
+    }
+}
+
+// Writes `words` from place `at` on.
+pub fn put(out: &mut [u64], at: usize, words: &[u64])
+    requires { ⌜ at + length (now words) ≤ length (now out) ⌝ }
+    ensures { λ _. ⌜ now (out .exit) ≡ take at (now (out .entry)) ++ now (words .entry) ++ drop (at + length (now (words .entry))) (now (out .entry)) ⌝ }
+{
+    let mut i: usize = 0;
+    while i < words.len() {
+        out[at + i] = words[i];
+        i += 1;
+    }
+}
+
+// ---- a state from its block
+
+fn load_size_decrease(word: u64) -> SizeDecrease
+    ensures { λ r. ⌜ r ≡ sizeDecreaseOf word ⌝ }
+{
+    match word {
+        0 => SizeDecrease::KeepsPriority,
+        _ => SizeDecrease::PriorityUnknown,
+    }
+}
+
+fn load_reason(word: u64) -> MalformedReason
+    ensures { λ r. ⌜ r ≡ reasonOf word ⌝ }
+{
+    match word {
+        0 => MalformedReason::NoSize,
+        _ => MalformedReason::Funds,
+    }
+}
+
+fn load_discrepancy(kind: u64, detail: u64) -> Discrepancy
+    ensures { λ r. ⌜ r ≡ discrepancyOf kind detail ⌝ }
+{
+    match kind {
+        30 => Discrepancy::UnknownMaker,
+        31 => Discrepancy::TakerResting,
+        32 => Discrepancy::MatchMismatch,
+        33 => Discrepancy::MatchExceedsRemaining,
+        34 => Discrepancy::DuplicateOpen,
+        35 => Discrepancy::MissingMatch,
+        36 => Discrepancy::RemainingMismatch,
+        37 => Discrepancy::DoneMismatch,
+        38 => Discrepancy::MalformedChange(load_reason(detail)),
+        39 => Discrepancy::ChangeMismatch,
+        40 => Discrepancy::UnsupportedModification,
+        41 => Discrepancy::CrossedAfterApply,
+        42 => Discrepancy::InvalidValue,
+        43 => Discrepancy::CapacityExceeded,
+        _ => Discrepancy::UnsupportedInput,
+    }
+}
+
+fn load_kind(kind: u64, first: u64, second: u64, detail: u64) -> InvalidationKind
+    ensures { λ r. ⌜ r ≡ kindOf kind first second detail ⌝ }
+{
+    match kind {
+        20 => InvalidationKind::Gap {
+            expected: first,
+            got: second,
+        },
+        21 => InvalidationKind::OutOfOrderOrDuplicate {
+            last: first,
+            got: second,
+        },
+        22 => InvalidationKind::SequenceOverflow,
+        _ => InvalidationKind::Discrepancy(load_discrepancy(kind, detail)),
+    }
+}
+
+fn load_status(word: u64, last: u64, offending: u64, kind: InvalidationKind) -> Status
+    ensures { λ r. ⌜ r ≡ statusOf word last offending kind ⌝ }
+{
+    match word {
+        0 => Status::Empty,
+        1 => Status::Valid { last_seq: last },
+        _ => Status::Invalidated(Invalidation {
+            last_good_seq: last,
+            first_offending_seq: offending,
+            kind,
+        }),
+    }
+}
+
+fn load_rules(words: &[u64]) -> VenueRules
+    requires { ⌜ 27 ≤ length (now words) ⌝ }
+    ensures { λ r. ⌜ r ≡ rulesOf (now (words .entry)) ⌝ }
+{
+    VenueRules {
+        size_decrease: load_size_decrease(words[2]),
+        max_orders: words[3] as usize,
+        max_levels: words[4] as usize,
+    }
+}
+
+fn load_counts(words: &[u64]) -> MessageCounts
+    requires { ⌜ 27 ≤ length (now words) ⌝ }
+    ensures { λ r. ⌜ r ≡ countsOf (now (words .entry)) ⌝ }
+{
+    MessageCounts {
+        received: words[15],
+        open: words[16],
+        done: words[17],
+        matched: words[18],
+        stp_decrease: words[19],
+        off_book_done: words[20],
+        off_book_change: words[21],
+        noop_change: words[22],
+        handshake_dropped: words[23],
+        skipped_while_invalid: words[24],
+        wrong_product: words[25],
+        rejected_snapshots: words[26],
+    }
+}
+
+// The state that a block is: any words are one.
+pub fn load_book(words: &[u64]) -> BookReconstructor
+    requires { ⌜ 27 ≤ length (now words) ⌝ }
+    ensures { λ r. ⌜ r ≡ bookOf (now (words .entry)) ⌝ }
+{
+    let product_id = ProductId {
+        high: words[0],
+        low: words[1],
+    };
+    let kind = load_kind(words[9], words[10], words[11], words[12]);
+    BookReconstructor {
+        product_id,
+        rules: load_rules(words),
+        number: words[5],
+        status: load_status(words[6], words[7], words[8], kind),
+        rows: words[13] as usize,
+        segments: words[14] as usize,
+        counts: load_counts(words),
+    }
+}
+
+// ---- a block from its state
+
+// An invalidation's reason: its number, the two sequences of 20 and 21, and which 38 it is.
+struct KindWords {
+    number: u64,
+    first: u64,
+    second: u64,
+    detail: u64,
+}
+
+struct StatusWords {
+    status: u64,
+    last: u64,
+    offending: u64,
+    kind: KindWords,
+}
+
+fn size_decrease_word(rule: SizeDecrease) -> u64
+    ensures { λ r. ⌜ r ≡ sizeDecreaseWord rule ⌝ }
+{
+    match rule {
+        SizeDecrease::KeepsPriority => 0,
+        SizeDecrease::PriorityUnknown => 1,
+    }
+}
+
+fn kind_words(kind: InvalidationKind) -> KindWords
+    ensures { λ r. ⌜ r ≡ kindWords kind ⌝ }
+{
+    match kind {
+        InvalidationKind::Gap { expected, got } => KindWords {
+            number: 20,
+            first: expected,
+            second: got,
+            detail: 0,
+        },
+        InvalidationKind::OutOfOrderOrDuplicate { last, got } => KindWords {
+            number: 21,
+            first: last,
+            second: got,
+            detail: 0,
+        },
+        InvalidationKind::SequenceOverflow => KindWords {
+            number: 22,
+            first: 0,
+            second: 0,
+            detail: 0,
+        },
+        InvalidationKind::Discrepancy(d) => KindWords {
+            number: d.number(),
+            first: 0,
+            second: 0,
+            detail: d.detail(),
+        },
+    }
+}
+
+fn status_words(status: Status) -> StatusWords
+    ensures { λ r. ⌜ r ≡ statusWords status ⌝ }
+{
+    let none = KindWords {
+        number: 0,
+        first: 0,
+        second: 0,
+        detail: 0,
+    };
+    match status {
+        Status::Empty => StatusWords {
+            status: 0,
+            last: 0,
+            offending: 0,
+            kind: none,
+        },
+        Status::Valid { last_seq } => StatusWords {
+            status: 1,
+            last: last_seq,
+            offending: 0,
+            kind: none,
+        },
+        Status::Invalidated(i) => {
+            let kind = i.kind;
+            StatusWords {
+                status: 2,
+                last: i.last_good_seq,
+                offending: i.first_offending_seq,
+                kind: kind_words(kind),
+            }
+        }
+    }
+}
+
+pub fn store_book(words: &mut [u64], book: BookReconstructor)
+    requires { ⌜ 27 ≤ length (now words) ⌝ }
+    ensures { λ _. ⌜ now (words .exit) ≡ blockOf book ++ drop 27 (now (words .entry)) ⌝ }
+{
+    let product = book.product_id;
+    let rules = book.rules;
+    let counts = book.counts;
+    let book_status = book.status;
+    let rule = rules.size_decrease;
+    let status = status_words(book_status);
+    let kind = status.kind;
+    put(
+        words,
+        0,
+        &[
+            product.high,
+            product.low,
+            size_decrease_word(rule),
+            rules.max_orders as u64,
+            rules.max_levels as u64,
+            book.number,
+            status.status,
+            status.last,
+            status.offending,
+            kind.number,
+            kind.first,
+            kind.second,
+            kind.detail,
+            book.rows as u64,
+            book.segments as u64,
+            counts.received,
+            counts.open,
+            counts.done,
+            counts.matched,
+            counts.stp_decrease,
+            counts.off_book_done,
+            counts.off_book_change,
+            counts.noop_change,
+            counts.handshake_dropped,
+            counts.skipped_while_invalid,
+            counts.wrong_product,
+            counts.rejected_snapshots,
+        ],
+    );
+}
+
+// ---- a message from its words
+
+// The word's bits as two's complement.
+fn signed(word: u64) -> i64
+    ensures { λ r. ⌜ r ≡ toZ w64 word ⌝ }
+{
+    if word < 9223372036854775808 {
+        word as i64
+    } else {
+        !((18446744073709551615 - word) as i64)
+    }
+}
+
+fn load_optional(present: u64, word: u64) -> OptionalAmount
+    ensures { λ r. ⌜ r ≡ optionalOf present word ⌝ }
+{
+    match present {
+        0 => OptionalAmount::Absent,
+        _ => OptionalAmount::Given(signed(word)),
+    }
+}
+
+fn load_side(word: u64) -> L3Side
+    ensures { λ r. ⌜ r ≡ sideOf word ⌝ }
+{
+    match word {
+        0 => L3Side::Buy,
+        _ => L3Side::Sell,
+    }
+}
+
+fn load_done_reason(word: u64) -> DoneReason
+    ensures { λ r. ⌜ r ≡ doneReasonOf word ⌝ }
+{
+    match word {
+        0 => DoneReason::Filled,
+        _ => DoneReason::Canceled,
+    }
+}
+
+fn load_change_reason(word: u64) -> ChangeReason
+    ensures { λ r. ⌜ r ≡ changeReasonOf word ⌝ }
+{
+    match word {
+        0 => ChangeReason::Stp,
+        _ => ChangeReason::ModifyOrder,
+    }
+}
+
+fn load_received(words: &[u64]) -> L3Event
+    requires { ⌜ 21 ≤ length (now words) ⌝ }
+    ensures { λ r. ⌜ r ≡ receivedOf (now (words .entry)) ⌝ }
+{
+    L3Event::Received {
+        order_id: OrderId {
+            high: words[5],
+            low: words[6],
+        },
+        side: load_side(words[7]),
+    }
+}
+
+fn load_open(words: &[u64]) -> L3Event
+    requires { ⌜ 21 ≤ length (now words) ⌝ }
+    ensures { λ r. ⌜ r ≡ openOf (now (words .entry)) ⌝ }
+{
+    L3Event::Open {
+        order_id: OrderId {
+            high: words[5],
+            low: words[6],
+        },
+        side: load_side(words[7]),
+        price: signed(words[8]),
+        remaining: signed(words[9]),
+    }
+}
+
+fn load_done(words: &[u64]) -> L3Event
+    requires { ⌜ 21 ≤ length (now words) ⌝ }
+    ensures { λ r. ⌜ r ≡ doneOf (now (words .entry)) ⌝ }
+{
+    L3Event::Done {
+        order_id: OrderId {
+            high: words[5],
+            low: words[6],
+        },
+        side: load_side(words[7]),
+        price: load_optional(words[8], words[9]),
+        reason: load_done_reason(words[10]),
+        remaining: load_optional(words[11], words[12]),
+    }
+}
+
+fn load_match(words: &[u64]) -> L3Event
+    requires { ⌜ 21 ≤ length (now words) ⌝ }
+    ensures { λ r. ⌜ r ≡ matchOf (now (words .entry)) ⌝ }
+{
+    L3Event::Match {
+        maker_id: OrderId {
+            high: words[5],
+            low: words[6],
+        },
+        taker_id: OrderId {
+            high: words[7],
+            low: words[8],
+        },
+        side: load_side(words[9]),
+        price: signed(words[10]),
+        size: signed(words[11]),
+    }
+}
+
+fn load_change(words: &[u64]) -> L3Event
+    requires { ⌜ 21 ≤ length (now words) ⌝ }
+    ensures { λ r. ⌜ r ≡ changeOf (now (words .entry)) ⌝ }
+{
+    L3Event::Change {
+        order_id: OrderId {
+            high: words[5],
+            low: words[6],
+        },
+        side: load_side(words[7]),
+        reason: load_change_reason(words[8]),
+        price: load_optional(words[9], words[10]),
+        old_size: load_optional(words[11], words[12]),
+        new_size: load_optional(words[13], words[14]),
+        old_price: load_optional(words[15], words[16]),
+        new_price: load_optional(words[17], words[18]),
+        new_funds: load_optional(words[19], words[20]),
+    }
+}
+
+fn load_event(words: &[u64]) -> L3Event
+    requires { ⌜ 21 ≤ length (now words) ⌝ }
+    ensures { λ r. ⌜ r ≡ eventOf (now (words .entry)) ⌝ }
+{
+    let kind = words[0];
+    match kind {
+        1 => load_received(words),
+        2 => load_open(words),
+        3 => load_done(words),
+        4 => load_match(words),
+        5 => load_change(words),
+        _ => L3Event::Unsupported {
+            kind: (words[5] % 4294967296) as u32,
+        },
+    }
+}
+
+// The message that 21 words are: any words are one.
+pub fn load_message(words: &[u64]) -> L3Message
+    requires { ⌜ 21 ≤ length (now words) ⌝ }
+    ensures { λ r. ⌜ r ≡ messageOf (now (words .entry)) ⌝ }
+{
+    L3Message {
+        product_id: ProductId {
+            high: words[1],
+            low: words[2],
+        },
+        sequence: words[3],
+        time_us: words[4],
+        event: load_event(words),
+    }
+}
+
+// ---- an answer as a number
+
+// 01's number of an answer; 256 where the message was applied and changed the book, 0 where it was applied without effect.
+pub fn apply_number(answer: ApplyAnswer) -> u64
+    ensures { λ r. ⌜ r ≡ applyNumber answer ⌝ }
+{
+    match answer {
+        ApplyAnswer::Applied(applied) => match applied {
+            Applied::BookChanged => 256,
+            Applied::NoBookEffect => 0,
+        },
+        ApplyAnswer::Unusable(why) => why.number(),
+        ApplyAnswer::AmountOutOfRange => 5,
+        ApplyAnswer::WrongProduct => 10,
+        ApplyAnswer::NotBootstrapped => 15,
+        ApplyAnswer::Invalidated(_) => 16,
+        ApplyAnswer::AwaitingSnapshot(_) => 17,
+    }
+}
