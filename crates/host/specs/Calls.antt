@@ -1,11 +1,11 @@
 -- The exported calls on a book: what a call answers and leaves.
 use Prim.Native.Nat.{ℕ}
-use mathlib.Core.List.{List, _++_}
+use mathlib.Core.List.{List}
 use mathlib.Core.Bool.{cond}
-use lib.Dec.{ltb}
-use lib.ListN.{length, drop}
+use lib.Dec.{eqb, ltb}
+use lib.ListN.{length}
 use Rattle.book.specs.Rows.{ceiling}
-use Rattle.host_words.specs.Block.{bookOf, blockOf, messageOf, applyNumber}
+use Rattle.host_words.specs.Block.{bookOf, restored, messageOf, applyNumber, setsStatus}
 use Rattle.reconstructor.specs.Applied.{Parts, applied}
 use Rattle.reconstructor_bootstrap.specs.Numbers.{snapshotNumber}
 use Rattle.reconstructor_bootstrap.specs.Bootstrap.{Parts as SnapshotParts, bootstrapped}
@@ -20,13 +20,14 @@ pub record Call : Type 0 where
 abbrev pub called : ℕ → List ℕ → List ℕ → List ℕ → Call
 called k st ws sg = record { number = k; state = st; rows = ws; segments = sg }
 
--- what the rules leave, written back: the block is the state's, and words past it are untouched. So a refusal leaves the state but may rewrite a
--- block that was not in the form that `blockOf` gives
+-- what the rules leave, written back
 abbrev pub afterApply : List ℕ → Parts → Call
-afterApply st p = called (applyNumber (p .answer)) (blockOf (p .book) ++ drop 27 st) (p .rows) (p .segments)
+afterApply st p = called (applyNumber (p .answer)) (restored st (setsStatus (p .answer)) (p .book)) (p .rows) (p .segments)
 
+-- 0 is the one answer that sets the status
 abbrev pub afterBootstrap : List ℕ → SnapshotParts → Call
-afterBootstrap st p = called (snapshotNumber (p .answer)) (blockOf (p .book) ++ drop 27 st) (p .rows) (p .segments)
+afterBootstrap st p =
+    called (snapshotNumber (p .answer)) (restored st (eqb (snapshotNumber (p .answer)) 0) (p .book)) (p .rows) (p .segments)
 
 -- 7 where fewer than 27 words of state, or fewer than 21 of a message, are lent: nothing is touched. Else the rules of 01
 unfoldable pub applyCall : List ℕ → List ℕ → List ℕ → List ℕ → Call

@@ -8,6 +8,7 @@ use host_words::kind_word;
 use host_words::load_book;
 use host_words::load_message;
 use host_words::put;
+use host_words::sets_status;
 use host_words::store_book;
 use piece::ReadMessage;
 use piece::ReadSnapshot;
@@ -109,7 +110,7 @@ pub extern "C" fn pinuglaw_rows_broken(rows: &[u64], n: usize, max_levels: usize
 
 // Applies a message of 21 words to the book whose state is the first 27 words of `state`; crate `host_words` has both layouts in specs/Block.antt.
 // Answers 256 where the book changed, 0 where the message was applied without effect, else 01's number; 7, and touches nothing, where fewer words of
-// state or message are lent. Otherwise those 27 words are the state afterwards. A refusal too writes them, in normal form.
+// state or message are lent. Otherwise those 27 words are the state afterwards; of a refusal, but for the count that 10 and 17 raise, the words lent.
 #[no_mangle]
 pub extern "C" fn pinuglaw_apply(
     state: &mut [u64],
@@ -128,12 +129,12 @@ pub extern "C" fn pinuglaw_apply(
     let reply = reconstructor::apply(load_book(state), rows, segments, load_message(message));
     let book = reply.book;
     let answer = reply.answer;
-    store_book(state, book);
+    store_book(state, book, sets_status(answer));
     apply_number(answer)
 }
 
 // Takes the snapshot piece in `bytes` for that book. Answers 0 or 01's number; 7, and touches nothing, where fewer than 27 words of state are lent.
-// Otherwise those 27 words are the state afterwards. A refusal too writes them, in normal form.
+// Otherwise those 27 words are the state afterwards; of a refusal, but for the count that 10 to 14 raise, the words lent.
 #[no_mangle]
 pub extern "C" fn pinuglaw_bootstrap(
     state: &mut [u64],
@@ -149,6 +150,7 @@ pub extern "C" fn pinuglaw_bootstrap(
     let reply = reconstructor_bootstrap::bootstrap(load_book(state), rows, segments, bytes);
     let book = reply.book;
     let answer = reply.answer;
-    store_book(state, book);
-    answer.number()
+    let number = answer.number();
+    store_book(state, book, number == 0);
+    number
 }

@@ -1,3 +1,4 @@
 pub mod Signs
 pub mod Puts
+pub mod Blocks
 pub mod RoundTrip

@@ -1,9 +1,14 @@
 -- Decoding undoes encoding: a state from its block, and a message from its words, whatever stands behind them.
 -- Assumes nothing.
-use Prim.Native.Nat.{ℕ}
+use Prim.Native.Nat.{ℕ, zero, suc, _+_, _≤_}
+use native.Mathlib.Omega.{arith}
+use native.Mathlib.Numerals.{add-one}
 use native.Mathlib.Nat.{mod-eq-of-lt}
 use mathlib.Core.Path.{_≡_, refl, ap}
-use mathlib.Core.List.{List, _∷_, _++_}
+use mathlib.Core.Bool.{Bool, true, false}
+use mathlib.Core.List.{List, [], _∷_, _++_}
+use lib.ListN.{length, getD, take, drop}
+use lib.Seq.{drop-cons}
 use Rattle.message.specs.declared.L3Side.{L3Side}
 use Rattle.message.specs.declared.L3Side.the-variants.{Buy, Sell}
 use Rattle.message.specs.declared.DoneReason.{DoneReason}
@@ -17,27 +22,21 @@ use Rattle.message.specs.declared.L3Event.the-variants.{Received, Open, Done, M
 use Rattle.message.specs.declared.L3Message.{L3Message}
 use Rattle.piece.specs.Piece.{sideOf, doneReasonOf, changeReasonOf}
 use Rattle.piece.specs.Encode.{kindByte, sideByte, doneReasonByte, changeReasonByte, presentBit, optionalWord, Optional, EventFits, MessageFits}
-use Rattle.reconstructor_state.specs.declared.SizeDecrease.{SizeDecrease}
-use Rattle.reconstructor_state.specs.declared.SizeDecrease.the-variants.{KeepsPriority, PriorityUnknown}
 use Rattle.reconstructor_state.specs.declared.MalformedReason.the-variants.{Funds, NoSize}
 use Rattle.reconstructor_state.specs.declared.Discrepancy.the-variants.{UnknownMaker, TakerResting, MatchMismatch, MatchExceedsRemaining, DuplicateOpen, MissingMatch, RemainingMismatch, DoneMismatch, MalformedChange, ChangeMismatch, UnsupportedModification, CrossedAfterApply, InvalidValue, CapacityExceeded, UnsupportedInput}
 use Rattle.reconstructor_state.specs.declared.InvalidationKind.{InvalidationKind}
 use Rattle.reconstructor_state.specs.declared.InvalidationKind.the-variants.{Gap, OutOfOrderOrDuplicate, SequenceOverflow, Discrepancy}
 use Rattle.reconstructor_state.specs.declared.Status.{Status}
 use Rattle.reconstructor_state.specs.declared.Status.the-variants.{Empty, Valid, Invalidated}
+use Rattle.reconstructor_state.specs.declared.MessageCounts.{MessageCounts}
 use Rattle.reconstructor_state.specs.declared.BookReconstructor.{BookReconstructor}
 use Rattle.host_words.specs.declared.KindWords.{KindWords}
 use Rattle.host_words.specs.declared.StatusWords.{StatusWords}
 use Rattle.host_words.specs.Words.{eventWords, messageWords}
-use Rattle.host_words.specs.Block.{sizeDecreaseOf, reasonOf, discrepancyOf, kindOf, statusOf, bookOf, sizeDecreaseWord, kindWords, statusWords, blockOf, optionalOf, receivedOf, openOf, doneOf, matchOf, changeOf, eventOf, messageOf}
+use Rattle.host_words.specs.Block.{reasonOf, discrepancyOf, kindOf, statusOf, bookOf, kindWords, statusWords, restored, optionalOf, receivedOf, openOf, doneOf, matchOf, changeOf, eventOf, messageOf}
 use Rattle.message.proofs.Signed.{back}
 
 -- ---- a state
-
-decrease-back : (d : SizeDecrease) → sizeDecreaseOf (sizeDecreaseWord d) ≡ d
-unfolding sizeDecreaseOf
-decrease-back KeepsPriority = refl
-decrease-back PriorityUnknown = refl
 
 abbrev kindFrom : KindWords → InvalidationKind
 kindFrom w = kindOf (w .number) (w .first) (w .second) (w .detail)
@@ -74,9 +73,27 @@ status-back (Valid last) = refl
 status-back (Invalidated i) =
     ap (λ k. Invalidated (record { «last_good_seq» = i .«last_good_seq»; «first_offending_seq» = i .«first_offending_seq»; kind = k })) (kind-back (i .kind))
 
-pub book-back : (b : BookReconstructor) (rest : List ℕ) → bookOf (blockOf b ++ rest) ≡ b
-unfolding bookOf blockOf
-book-back b rest = rw (decrease-back (b .rules .«size_decrease»), status-back (b .status))
+-- words of a list from place i on
+abbrev each : List ℕ → ℕ → ℕ → List ℕ
+each ws i zero = []
+each ws i (suc k) = getD ws i 0 ∷ each ws (i + 1) k
+
+part : (ws : List ℕ) (i k : ℕ) → i + k ≤ length ws → take k (drop i ws) ≡ each ws i k
+part ws i zero h = refl
+part ws i (suc k) h =
+    rw (drop-cons ws i 0 (omega arith), ← add-one i) (ap (λ l. getD ws i 0 ∷ l) (part ws (i + 1) k (omega arith)))
+
+-- the state with another status, rows, segments and counts: what a call may change
+abbrev pub changed : BookReconstructor → Status → ℕ → ℕ → MessageCounts → BookReconstructor
+changed b s n g k =
+    record { «product_id» = b .«product_id»; rules = b .rules; number = b .number; status = s; rows = n; segments = g; counts = k }
+
+-- what is left of a block is the state afterwards, where a status that is not set is the one there was
+pub block-back : (st : List ℕ) (sets : Bool) (s : Status) (n g : ℕ) (k : MessageCounts) → 27 ≤ length st → (sets ≡ false → s ≡ bookOf st .status)
+    → bookOf (restored st sets (changed (bookOf st) s n g k)) ≡ changed (bookOf st) s n g k
+unfolding bookOf restored
+block-back st true s n g k long h = rw (part st 0 6 (omega arith), status-back s)
+block-back st false s n g k long h = rw (part st 0 6 (omega arith), part st 6 7 (omega arith), h refl)
 
 -- ---- a message
 

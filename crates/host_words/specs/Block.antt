@@ -1,9 +1,9 @@
 -- A state and a message from words, a state as words, and the number of an answer. Any words are some state and some message.
 use Prim.Native.Nat.{ℕ, _*_, _%_}
-use mathlib.Core.List.{List, [], _∷_}
-use mathlib.Core.Bool.{cond}
+use mathlib.Core.List.{List, [], _∷_, _++_}
+use mathlib.Core.Bool.{Bool, true, false, cond}
 use lib.Dec.{eqb}
-use lib.ListN.{getD}
+use lib.ListN.{getD, take, drop}
 use mir.Syntax.{w64}
 use mir.Val.{toZ}
 use Rattle.message.specs.declared.OptionalAmount.{OptionalAmount}
@@ -32,7 +32,7 @@ use Rattle.reconstructor_state.specs.Numbers.{kindNumber, kindDetail, appliedVa
 use Rattle.host_words.specs.declared.KindWords.{KindWords}
 use Rattle.host_words.specs.declared.StatusWords.{StatusWords}
 
--- ---- The state: 27 words; `blockOf` writes the numbers given here, with 1 and 2 for "else" at 2 and 6
+-- ---- The state: 27 words; `statusList` writes the numbers given here, with 2 for "else" at 6
 --   0, 1      product, high and low
 --   2         size_decrease: 0 KeepsPriority, else PriorityUnknown
 --   3, 4      max_orders, max_levels
@@ -114,11 +114,7 @@ bookOf ws =
       counts = countsOf ws;
     }
 
--- the words of a state: those of its reason, of its status, then all
-abbrev pub sizeDecreaseWord : SizeDecrease → ℕ
-sizeDecreaseWord KeepsPriority = 0
-sizeDecreaseWord PriorityUnknown = 1
-
+-- the words of a reason and of a status
 abbrev pub kindFirst : InvalidationKind → ℕ
 kindFirst (kinds.Gap expected got) = expected
 kindFirst (kinds.OutOfOrderOrDuplicate last got) = last
@@ -143,33 +139,37 @@ statusWords (Valid last) = record { status = 1; last = last; offending = 0; kind
 statusWords (Invalidated i) =
     record { status = 2; last = i .«last_good_seq»; offending = i .«first_offending_seq»; kind = kindWords (i .kind) }
 
-abbrev pub countWords : MessageCounts → List ℕ
-countWords c =
-    c .received ∷
-    c .«open» ∷
-    c .done ∷
-    c .matched ∷
-    c .«stp_decrease» ∷
-    c .«off_book_done» ∷
-    c .«off_book_change» ∷
-    c .«noop_change» ∷
-    c .«handshake_dropped» ∷ c .«skipped_while_invalid» ∷ c .«wrong_product» ∷ c .«rejected_snapshots» ∷ []
+-- words 6 to 12
+abbrev pub statusList : Status → List ℕ
+statusList s =
+    statusWords s .status ∷
+    statusWords s .last ∷
+    statusWords s .offending ∷
+    statusWords s .kind .number ∷ statusWords s .kind .first ∷ statusWords s .kind .second ∷ statusWords s .kind .detail ∷ []
 
-unfoldable pub blockOf : BookReconstructor → List ℕ
-blockOf b =
-    b .«product_id» .high ∷
-    b .«product_id» .low ∷
-    sizeDecreaseWord (b .rules .«size_decrease») ∷
-    b .rules .«max_orders» ∷
-    b .rules .«max_levels» ∷
-    b .number ∷
-    statusWords (b .status) .status ∷
-    statusWords (b .status) .last ∷
-    statusWords (b .status) .offending ∷
-    statusWords (b .status) .kind .number ∷
-    statusWords (b .status) .kind .first ∷
-    statusWords (b .status) .kind .second ∷
-    statusWords (b .status) .kind .detail ∷ b .rows ∷ b .segments ∷ countWords (b .counts)
+-- what a call leaves of them, `sets` saying whether it sets the status: a refusal leaves them as they are
+abbrev pub statusAfter : List ℕ → Bool → Status → List ℕ
+statusAfter st sets s = cond sets (statusList s) (take 7 (drop 6 st))
+
+-- words 13 to 26
+abbrev pub restList : BookReconstructor → List ℕ
+restList b =
+    b .rows ∷
+    b .segments ∷
+    b .counts .received ∷
+    b .counts .«open» ∷
+    b .counts .done ∷
+    b .counts .matched ∷
+    b .counts .«stp_decrease» ∷
+    b .counts .«off_book_done» ∷
+    b .counts .«off_book_change» ∷
+    b .counts .«noop_change» ∷
+    b .counts .«handshake_dropped» ∷
+    b .counts .«skipped_while_invalid» ∷ b .counts .«wrong_product» ∷ b .counts .«rejected_snapshots» ∷ []
+
+-- what a call leaves of a block: words 0 to 5 and those past 26 stay; 13 to 26 are those of the state afterwards
+unfoldable pub restored : List ℕ → Bool → BookReconstructor → List ℕ
+restored st sets b = take 6 st ++ statusAfter st sets (b .status) ++ restList b ++ drop 27 st
 
 -- ---- A message: 21 words, as `messageWords` of Words.antt gives them
 --   0         kind: 1 received, 2 open, 3 done, 4 match, 5 change, else unsupported
@@ -245,3 +245,13 @@ applyNumber answers.WrongProduct = answerNumber answers.WrongProduct
 applyNumber answers.NotBootstrapped = answerNumber answers.NotBootstrapped
 applyNumber (answers.Invalidated i) = answerNumber (answers.Invalidated i)
 applyNumber (answers.AwaitingSnapshot i) = answerNumber (answers.AwaitingSnapshot i)
+
+-- 01: "Acceptance sets last sequence", "Results 20 to 44 invalidate"; any other answer leaves the status
+abbrev pub setsStatus : ApplyAnswer → Bool
+setsStatus (answers.Applied a) = true
+setsStatus (answers.Unusable e) = false
+setsStatus answers.AmountOutOfRange = false
+setsStatus answers.WrongProduct = false
+setsStatus answers.NotBootstrapped = false
+setsStatus (answers.Invalidated i) = true
+setsStatus (answers.AwaitingSnapshot i) = false

@@ -27,7 +27,7 @@ ghost use mir.Val.{ofZ, toZ};
 ghost use Rattle.piece.specs.Piece.{sideOf, doneReasonOf, changeReasonOf};
 ghost use Rattle.piece.specs.Encode.{kindByte, sideByte, doneReasonByte, changeReasonByte, presentBit, optionalWord};
 ghost use Rattle.host_words.specs.Words.{eventWords};
-ghost use Rattle.host_words.specs.Block.{sizeDecreaseOf, reasonOf, discrepancyOf, kindOf, statusOf, rulesOf, countsOf, bookOf, sizeDecreaseWord, kindWords, statusWords, blockOf, optionalOf, receivedOf, openOf, doneOf, matchOf, changeOf, eventOf, messageOf, applyNumber};
+ghost use Rattle.host_words.specs.Block.{sizeDecreaseOf, reasonOf, discrepancyOf, kindOf, statusOf, rulesOf, countsOf, bookOf, kindWords, statusWords, statusAfter, restList, restored, optionalOf, receivedOf, openOf, doneOf, matchOf, changeOf, eventOf, messageOf, applyNumber, setsStatus};
 
 // ---- a value as words
 
@@ -392,15 +392,6 @@ struct StatusWords {
     kind: KindWords,
 }
 
-fn size_decrease_word(rule: SizeDecrease) -> u64
-    ensures { λ r. ⌜ r ≡ sizeDecreaseWord rule ⌝ }
-{
-    match rule {
-        SizeDecrease::KeepsPriority => 0,
-        SizeDecrease::PriorityUnknown => 1,
-    }
-}
-
 fn kind_words(kind: InvalidationKind) -> KindWords
     ensures { λ r. ⌜ r ≡ kindWords kind ⌝ }
 {
@@ -466,34 +457,41 @@ fn status_words(status: Status) -> StatusWords
     }
 }
 
-pub fn store_book(words: &mut [u64], book: BookReconstructor)
+// Writes words 6 to 12 where the call sets the status: a refusal leaves them, even where a status can be written in other words.
+fn store_status(words: &mut [u64], status: Status, sets: bool)
     requires { ⌜ 27 ≤ length (now words) ⌝ }
-    ensures { λ _. ⌜ now (words .exit) ≡ blockOf book ++ drop 27 (now (words .entry)) ⌝ }
+    ensures { λ _. ⌜ now (words .exit) ≡ take 6 (now (words .entry)) ++ statusAfter (now (words .entry)) sets status ++ drop 13 (now (words .entry)) ⌝ }
 {
-    let product = book.product_id;
-    let rules = book.rules;
-    let counts = book.counts;
-    let book_status = book.status;
-    let rule = rules.size_decrease;
-    let status = status_words(book_status);
-    let kind = status.kind;
+    if !sets {
+        return;
+    }
+    let w = status_words(status);
+    let kind = w.kind;
     put(
         words,
-        0,
+        6,
         &[
-            product.high,
-            product.low,
-            size_decrease_word(rule),
-            rules.max_orders as u64,
-            rules.max_levels as u64,
-            book.number,
-            status.status,
-            status.last,
-            status.offending,
+            w.status,
+            w.last,
+            w.offending,
             kind.number,
             kind.first,
             kind.second,
             kind.detail,
+        ],
+    );
+}
+
+// Writes words 13 to 26.
+fn store_rest(words: &mut [u64], book: BookReconstructor)
+    requires { ⌜ 27 ≤ length (now words) ⌝ }
+    ensures { λ _. ⌜ now (words .exit) ≡ take 13 (now (words .entry)) ++ restList book ++ drop 27 (now (words .entry)) ⌝ }
+{
+    let counts = book.counts;
+    put(
+        words,
+        13,
+        &[
             book.rows as u64,
             book.segments as u64,
             counts.received,
@@ -510,6 +508,16 @@ pub fn store_book(words: &mut [u64], book: BookReconstructor)
             counts.rejected_snapshots,
         ],
     );
+}
+
+// Writes what a call may have changed of the state.
+pub fn store_book(words: &mut [u64], book: BookReconstructor, sets: bool)
+    requires { ⌜ 27 ≤ length (now words) ⌝ }
+    ensures { λ _. ⌜ now (words .exit) ≡ restored (now (words .entry)) sets book ⌝ }
+{
+    let status = book.status;
+    store_status(words, status, sets);
+    store_rest(words, book);
 }
 
 // ---- a message from its words
@@ -677,7 +685,7 @@ pub fn load_message(words: &[u64]) -> L3Message
     }
 }
 
-// ---- an answer as a number
+// ---- an answer
 
 // 01's number of an answer; 256 where the message was applied and changed the book, 0 where it was applied without effect.
 pub fn apply_number(answer: ApplyAnswer) -> u64
@@ -694,5 +702,20 @@ pub fn apply_number(answer: ApplyAnswer) -> u64
         ApplyAnswer::NotBootstrapped => 15,
         ApplyAnswer::Invalidated(_) => 16,
         ApplyAnswer::AwaitingSnapshot(_) => 17,
+    }
+}
+
+// Whether `apply` sets the status with this answer.
+pub fn sets_status(answer: ApplyAnswer) -> bool
+    ensures { λ r. ⌜ r ≡ setsStatus answer ⌝ }
+{
+    match answer {
+        ApplyAnswer::Applied(_) => true,
+        ApplyAnswer::Unusable(_) => false,
+        ApplyAnswer::AmountOutOfRange => false,
+        ApplyAnswer::WrongProduct => false,
+        ApplyAnswer::NotBootstrapped => false,
+        ApplyAnswer::Invalidated(_) => true,
+        ApplyAnswer::AwaitingSnapshot(_) => false,
     }
 }

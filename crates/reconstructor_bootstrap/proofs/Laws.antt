@@ -201,7 +201,7 @@ pub record Untouched (b : BookReconstructor) (ws sg : List ℕ) (p : Parts) : Ty
   pub listed : p .book .segments ≡ b .segments
 
 -- a refusal changes the counts at most
-counts-alone : (x : SnapshotAnswer) (b : BookReconstructor) → refusedBook x b ≡ withCounts b (refusedBook x b .counts)
+pub counts-alone : (x : SnapshotAnswer) (b : BookReconstructor) → refusedBook x b ≡ withCounts b (refusedBook x b .counts)
 counts-alone Bootstrapped b = refl
 counts-alone (Unusable e) b = refl
 counts-alone NotAPiece b = refl

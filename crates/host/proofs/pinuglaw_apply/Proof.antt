@@ -23,13 +23,14 @@ returns-3 : tie.Need-returns-3
 unfolding applyCall
 returns-3 c =
     let k-store-book = c .before .before .before in
-    let k-apply = k-store-book .before .before .before .before .before .before .before in
+    let k-sets-status = k-store-book .before in
+    let k-apply = k-sets-status .before .before .before .before .before .before .before in
     let k-load-message = k-apply .before in
     let k-load-book = k-load-message .before .before .before in
     let k-if2 = k-load-book .before .before in
     let k-if1 = k-if2 .before in
     let k-args = k-if1 .before .before .before .before .before in
-    rw (le-ltb (length (now (k-args .args .state))) 27 (k-if1 .if1 .left), le-ltb (length (now (k-args .args .message))) 21 (k-if2 .if2 .left), c .apply-number .ensures, k-store-book .store-book .ensures, ← k-load-book .load-book .ensures, ← k-load-message .load-message .ensures)
+    rw (le-ltb (length (now (k-args .args .state))) 27 (k-if1 .if1 .left), le-ltb (length (now (k-args .args .message))) 21 (k-if2 .if2 .left), c .apply-number .ensures, k-store-book .store-book .ensures, k-sets-status .sets-status .ensures, ← k-load-book .load-book .ensures, ← k-load-message .load-message .ensures)
     (ap (afterApply (now (k-args .args .state))) (k-apply .apply .ensures))
 
 pub pinuglaw-apply-spec : {M : Type 1} → statement M
@@ -38,6 +39,7 @@ pinuglaw-apply-spec =
     (tie.spec
     returns
     returns-2
+    (λ c κs. search needs)
     (λ c κs. search needs)
     (λ c κs. search needs)
     (λ c κs. search needs)

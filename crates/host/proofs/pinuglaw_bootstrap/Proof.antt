@@ -16,12 +16,13 @@ returns c =
 returns-2 : tie.Need-returns-2
 unfolding bootstrapCall
 returns-2 c =
-    let k-store-book = c .before .before .before in
-    let k-bootstrap = k-store-book .before .before .before .before .before .before .before in
+    let k-store-book = c .before .before in
+    let k-number = k-store-book .before .before in
+    let k-bootstrap = k-number .before .before .before .before .before .before in
     let k-load-book = k-bootstrap .before .before .before in
     let k-if1 = k-load-book .before .before in
     let k-args = k-if1 .before .before .before .before .before in
-    rw (le-ltb (length (now (k-args .args .state))) 27 (k-if1 .if1 .left), c .number .ensures, k-store-book .store-book .ensures, ← k-load-book .load-book .ensures)
+    rw (le-ltb (length (now (k-args .args .state))) 27 (k-if1 .if1 .left), k-store-book .store-book .ensures, k-number .number .ensures, ← k-load-book .load-book .ensures)
     (ap (afterBootstrap (now (k-args .args .state))) (k-bootstrap .bootstrap .ensures))
 
 pub pinuglaw-bootstrap-spec : {M : Type 1} → statement M
