@@ -166,7 +166,7 @@ pub fn side_of(kind: u64) -> L3Side
 }
 
 // Whether an order has the id.
-fn has_id(o: Resting, id: OrderId) -> bool
+pub fn has_id(o: Resting, id: OrderId) -> bool
     ensures { λ r. ⌜ r ≡ sameId (idOf o) id ⌝ }
 {
     message::same_id(

@@ -8,11 +8,7 @@ use mathlib.Core.Bool.{Bool, true, false, cond}
 use mathlib.Core.List.{List}
 use mathlib.Core.Option.{none, some}
 use lib.ListN.{length}
-use lib.IntN.{ℤ}
-use mir.Syntax.{w64}
-use mir.Val.{toZ, ofZ, SFits}
 use Rattle.message.specs.declared.OrderId.{OrderId}
-use Rattle.message.specs.Amounts.{natOf}
 use Rattle.book.specs.declared.Found.{Found}
 use Rattle.book.specs.declared.Found.the-variants.{At, Nothing}
 use Rattle.book.specs.declared.Resting.{Resting}
@@ -23,14 +19,9 @@ use Rattle.reconstructor_state.specs.declared.Counter.{Counter}
 use Rattle.reconstructor_state.specs.declared.Applied.the-variants.{BookChanged}
 use Rattle.reconstructor_plan.specs.declared.Plan.the-variants.{Reduce, Remove}
 use Rattle.reconstructor_plan.specs.Plans.{deedOf, cutPlan, PlanFits}
-use Rattle.message.proofs.Signed.{back}
 use Rattle.book.proofs.Rows.{length-rows}
 use Rattle.book.proofs.Kept.{length-line}
 use Rattle.book.proofs.Stored.{FoundAt, found-at, found-none}
-
--- a size that was computed is the amount's number
-pub sized : {r : ℕ} (x : ℤ) → r ≡ natOf (toZ w64 (ofZ w64 x)) → SFits w64 x → r ≡ natOf x
-sized x e f = e ∙ ap natOf (back x (f .sfits))
 
 module _ (ws : List ℕ) (n : ℕ) (d : OrderId) (r : Found) (e : r ≡ findRow (rowsOf ws n) d 0) where
   pub at-row : (i : ℕ) → r ≡ At i → FoundAt ws n d i

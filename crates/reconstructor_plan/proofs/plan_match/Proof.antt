@@ -6,9 +6,9 @@ use borrow.Author.Needs.{needs}
 use Rattle.book.specs.declared.Decrease.the-variants.{Unmarked}
 use Rattle.reconstructor_state.specs.declared.Counter.the-variants.{Matched}
 use Rattle.reconstructor_plan.specs.Rules.{eventRefusal, makerRefusal, eventDeed, effect, counterOf}
-use Rattle.message.proofs.Signed.{back}
+use Rattle.message.proofs.Signed.{back, sized}
 use Rattle.reconstructor_state.proofs.Checks.{fails, goes-on, told-false, links}
-use Rattle.reconstructor_plan.proofs.Found.{cut-deed, cut-fits, sized, at-row, row-entry, it-rests, no-row}
+use Rattle.reconstructor_plan.proofs.Found.{cut-deed, cut-fits, at-row, row-entry, it-rests, no-row}
 use Rattle.reconstructor_plan.proofs.plan_match.Statement.{statement}
 use Rattle.reconstructor_plan.proofs.plan_match.Tie as tie
 

@@ -1,0 +1,213 @@
+// The level reads: `level_queue`, `priority_profile`, `l2` of a valid book, `stale_l2` of an invalid one. Scratch and output are written only once 7 is out.
+use book_queue::EntryForm;
+use message::L3Side;
+use reconstructor_checks::Checked;
+use reconstructor_state::BookReconstructor;
+use reconstructor_state::StateError;
+use reconstructor_state::Status;
+use reconstructor_view::ViewError;
+use reconstructor_view::Viewed;
+ghost use mathlib.Core.Path.{_≡_};
+ghost use mathlib.Core.Bool.{false};
+ghost use Prim.Native.Nat.{_≤_};
+ghost use lib.ListN.{length};
+ghost use Rattle.book.specs.Rows.{Lent, ceiling, rowsOf};
+ghost use Rattle.book.specs.Broken.{someRowBroken};
+ghost use Rattle.reconstructor_reads.specs.Reads.{queueContent, levelsContent, shows, shown, readOf, leaves, levelQueue, priorityProfile, l2, leavesStale, staleL2};
+ghost use Rattle.reconstructor_reads.specs.Numbers.{shownNumber, levelNumber, staleNumber};
+
+// How many entries were written, or 7.
+pub enum Shown {
+    Entries(usize),
+    OutputTooSmall,
+}
+
+// The answer of a read of a valid book.
+pub enum LevelAnswer {
+    Shown(Shown),
+    Refused(ViewError),
+}
+
+// The answer of `stale_l2`.
+pub enum StaleAnswer {
+    // The book is not invalid: there is nothing stale to show.
+    NotStale,
+    Shown(Shown),
+    Unusable(StateError),
+}
+
+impl Shown {
+    pub fn number(self) -> u64
+        ensures { λ r. ⌜ r ≡ shownNumber self ⌝ }
+    {
+        match self {
+            Shown::Entries(_) => 0,
+            Shown::OutputTooSmall => 7,
+        }
+    }
+}
+
+impl LevelAnswer {
+    pub fn number(self) -> u64
+        ensures { λ r. ⌜ r ≡ levelNumber self ⌝ }
+    {
+        match self {
+            LevelAnswer::Shown(shown) => shown.number(),
+            LevelAnswer::Refused(why) => why.number(),
+        }
+    }
+}
+
+impl StaleAnswer {
+    pub fn number(self) -> u64
+        ensures { λ r. ⌜ r ≡ staleNumber self ⌝ }
+    {
+        match self {
+            StaleAnswer::NotStale => 0,
+            StaleAnswer::Shown(shown) => shown.number(),
+            StaleAnswer::Unusable(why) => why.number(),
+        }
+    }
+}
+
+// Shows the orders at a side and price.
+fn show_queue(
+    rows: &[u64],
+    n: usize,
+    scratch: &mut [u64],
+    max_orders: usize,
+    side: L3Side,
+    price: u64,
+    out: &mut [u64],
+) -> Shown
+    requires { ⌜ Lent (now rows) n × («max_orders» ≤ length (now scratch)) ⌝ }
+    ensures { λ r. ⌜ shows r (now (scratch .exit)) (now (out .exit)) ≡ shown «max_orders» (queueContent side price (rowsOf (now (rows .entry)) n)) (now (scratch .entry)) (now (out .entry)) ⌝ }
+{
+    let count = book_queue::order_count(rows, n, side, price);
+    if out.len() < 5 * count {
+        return Shown::OutputTooSmall;
+    }
+    book_queue::write_orders(rows, n, side, price, EntryForm::Queue, out);
+    book_levels::clear(scratch, max_orders);
+    Shown::Entries(count)
+}
+
+// Shows the levels of a side, `width` words each.
+fn show_levels(
+    rows: &[u64],
+    n: usize,
+    scratch: &mut [u64],
+    max_orders: usize,
+    side: L3Side,
+    width: usize,
+    out: &mut [u64],
+) -> Shown
+    requires { ⌜ Lent (now rows) n × (someRowBroken (rowsOf (now rows) n) ≡ false) ⌝ }
+    requires { ⌜ (n ≤ «max_orders») × («max_orders» ≤ length (now scratch)) ⌝ }
+    requires { ⌜ (2 ≤ width) × (width ≤ 3) ⌝ }
+    ensures { λ r. ⌜ shows r (now (scratch .exit)) (now (out .exit)) ≡ shown «max_orders» (levelsContent width side (rowsOf (now (rows .entry)) n)) (now (scratch .entry)) (now (out .entry)) ⌝ }
+{
+    let count = book_keys::side_level_count(rows, n, side);
+    if out.len() < width * count {
+        return Shown::OutputTooSmall;
+    }
+    book_levels::write_levels(rows, n, side, width, scratch, max_orders, out);
+    Shown::Entries(count)
+}
+
+// The orders of one level in queue order, five words each: id high, id low, remaining, whether its open was observed, and where.
+pub fn level_queue(
+    book: BookReconstructor,
+    rows: &[u64],
+    scratch: &mut [u64],
+    side: L3Side,
+    price: i64,
+    out: &mut [u64],
+) -> LevelAnswer
+    ensures { λ r. ⌜ leaves r (now (scratch .exit)) (now (out .exit)) ≡ levelQueue ceiling book (now (rows .entry)) (now (scratch .entry)) side price (now (out .entry)) ⌝ }
+{
+    let rules = book.rules;
+    let most = rules.max_orders;
+    let at = message::amount::size_of(price);
+    match reconstructor_view::valid_book(book, rows, scratch.len() < most) {
+        Viewed::Refused(why) => LevelAnswer::Refused(why),
+        Viewed::Valid { .. } => {
+            LevelAnswer::Shown(show_queue(rows, book.rows, scratch, most, side, at, out))
+        }
+    }
+}
+
+// Shows the levels of a side of a valid book.
+fn level_read(
+    book: BookReconstructor,
+    rows: &[u64],
+    scratch: &mut [u64],
+    side: L3Side,
+    width: usize,
+    out: &mut [u64],
+) -> LevelAnswer
+    requires { ⌜ (2 ≤ width) × (width ≤ 3) ⌝ }
+    ensures { λ r. ⌜ leaves r (now (scratch .exit)) (now (out .exit)) ≡ readOf ceiling book (now (rows .entry)) (now (scratch .entry)) (levelsContent width side (rowsOf (now (rows .entry)) (book .rows))) (now (out .entry)) ⌝ }
+{
+    let rules = book.rules;
+    let most = rules.max_orders;
+    match reconstructor_view::valid_book(book, rows, scratch.len() < most) {
+        Viewed::Refused(why) => LevelAnswer::Refused(why),
+        Viewed::Valid { .. } => {
+            LevelAnswer::Shown(show_levels(rows, book.rows, scratch, most, side, width, out))
+        }
+    }
+}
+
+// Per level, best first: price, total size and the size of unknown priority.
+pub fn priority_profile(
+    book: BookReconstructor,
+    rows: &[u64],
+    scratch: &mut [u64],
+    side: L3Side,
+    out: &mut [u64],
+) -> LevelAnswer
+    ensures { λ r. ⌜ leaves r (now (scratch .exit)) (now (out .exit)) ≡ priorityProfile ceiling book (now (rows .entry)) (now (scratch .entry)) side (now (out .entry)) ⌝ }
+{
+    level_read(book, rows, scratch, side, 3, out)
+}
+
+// Aggregated size per price, best first.
+pub fn l2(
+    book: BookReconstructor,
+    rows: &[u64],
+    scratch: &mut [u64],
+    side: L3Side,
+    out: &mut [u64],
+) -> LevelAnswer
+    ensures { λ r. ⌜ leaves r (now (scratch .exit)) (now (out .exit)) ≡ l2 ceiling book (now (rows .entry)) (now (scratch .entry)) side (now (out .entry)) ⌝ }
+{
+    level_read(book, rows, scratch, side, 2, out)
+}
+
+// The last good book's aggregated sizes while invalidated: a stale diagnostic, never a valid view.
+pub fn stale_l2(
+    book: BookReconstructor,
+    rows: &[u64],
+    scratch: &mut [u64],
+    side: L3Side,
+    out: &mut [u64],
+) -> StaleAnswer
+    ensures { λ r. ⌜ leavesStale r (now (scratch .exit)) (now (out .exit)) ≡ staleL2 ceiling book (now (rows .entry)) (now (scratch .entry)) side (now (out .entry)) ⌝ }
+{
+    let rules = book.rules;
+    let most = rules.max_orders;
+    match reconstructor_view::read_checks(book, rows, scratch.len() < most) {
+        Checked::Refused(why) => StaleAnswer::Unusable(why),
+        Checked::Passed => {
+            let status = book.status;
+            match status {
+                Status::Empty => StaleAnswer::NotStale,
+                Status::Valid { .. } => StaleAnswer::NotStale,
+                Status::Invalidated(_) => {
+                    StaleAnswer::Shown(show_levels(rows, book.rows, scratch, most, side, 2, out))
+                }
+            }
+        }
+    }
+}

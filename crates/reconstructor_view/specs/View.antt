@@ -1,0 +1,82 @@
+-- Reads of a book: when they are turned away, and those whose answer is a value. 01, Reads: "1, 2, 3, then 15 or 18".
+use Prim.Native.Nat.{ℕ, _*_}
+use mathlib.Core.Bool.{Bool, false, _||_}
+use mathlib.Core.List.{List}
+use mathlib.Core.Option.{Option, none, some}
+use lib.Dec.{ltb}
+use lib.ListN.{length}
+use Rattle.message.specs.declared.L3Side.the-variants.{Buy, Sell}
+use Rattle.book.specs.declared.Resting.{Resting}
+use Rattle.book.specs.Line.{Entry, best}
+use Rattle.book.specs.Rows.{rowsOf, lineOf}
+use Rattle.book_valid.specs.Audit.{auditRows}
+use Rattle.reconstructor_state.specs.declared.VenueRules.{VenueRules}
+use Rattle.reconstructor_state.specs.declared.Status.{Status}
+use Rattle.reconstructor_state.specs.declared.Status.the-variants as statuses
+use Rattle.reconstructor_state.specs.declared.StateError.{StateError}
+use Rattle.reconstructor_state.specs.declared.StateError.the-variants.{LimitAboveCeiling, LentTooShort, MalformedBook}
+use Rattle.reconstructor_state.specs.declared.BookReconstructor.{BookReconstructor}
+use Rattle.reconstructor_state.specs.Checks.{check, first}
+use Rattle.reconstructor_state.specs.State.{lastOf}
+use Rattle.reconstructor_checks.specs.Own.{overCeiling, broken}
+use Rattle.reconstructor_view.specs.declared.ViewError.{ViewError}
+use Rattle.reconstructor_view.specs.declared.ViewError.the-variants as errors
+use Rattle.reconstructor_view.specs.declared.Viewed.{Viewed}
+use Rattle.reconstructor_view.specs.declared.Viewed.the-variants as views
+use Rattle.reconstructor_view.specs.declared.BestAnswer.{BestAnswer}
+use Rattle.reconstructor_view.specs.declared.BestAnswer.the-variants as bests
+use Rattle.reconstructor_view.specs.declared.Audited.{Audited}
+use Rattle.reconstructor_view.specs.declared.Audited.the-variants as audits
+
+-- ---- when a read is turned away
+
+-- 1, 2, 3. 2: "rows under 8 × max_orders words, scratch under max_orders": `short` says that of the scratch, and is false where none is lent. A read is not
+-- lent the segment list. `three` says whether number 3 arises
+unfoldable pub readRefusal : ℕ → VenueRules → ℕ → Bool → Bool → Option StateError
+readRefusal top v rows short three =
+    check (overCeiling top v) LimitAboveCeiling
+    (check (ltb rows (8 * v .«max_orders») || short) LentTooShort (check three MalformedBook none))
+
+-- "then 15 or 18": 18 carries the invalidation in force
+abbrev pub standing : Status → Option ViewError
+standing statuses.Empty = some errors.NotBootstrapped
+standing (statuses.Valid last) = none
+standing (statuses.Invalidated i) = some (errors.Invalidated i)
+
+unfoldable pub viewRefusal : ℕ → VenueRules → ℕ → Bool → Bool → Status → Option ViewError
+viewRefusal top v rows short three s = first (readRefusal top v rows short three) errors.Unusable (standing s)
+
+-- of a state with lent rows
+abbrev pub stateRead : ℕ → BookReconstructor → List ℕ → Bool → Option StateError
+stateRead top b ws short = readRefusal top (b .rules) (length ws) short (broken b ws)
+
+abbrev pub bookView : ℕ → BookReconstructor → List ℕ → Bool → Option ViewError
+bookView top b ws short = viewRefusal top (b .rules) (length ws) short (broken b ws) (b .status)
+
+-- ---- what a read answers
+
+-- the last sequence applied
+unfoldable pub viewed : Option ViewError → ℕ → Viewed
+viewed none last = views.Valid last
+viewed (some e) last = views.Refused e
+
+-- the best buy and the best sell
+unfoldable pub bestOf : Option ViewError → List Entry → BestAnswer
+bestOf none l = bests.Prices (best Buy l) (best Sell l)
+bestOf (some e) l = bests.Refused e
+
+-- what an audit of the rows finds
+unfoldable pub auditedOf : Option ViewError → List Resting → Audited
+auditedOf none os = audits.Found (auditRows os)
+auditedOf (some e) os = audits.Refused e
+
+-- ---- the reads
+
+abbrev pub lastSequence : ℕ → BookReconstructor → List ℕ → Viewed
+lastSequence top b ws = viewed (bookView top b ws false) (lastOf (b .status))
+
+abbrev pub bestRead : ℕ → BookReconstructor → List ℕ → BestAnswer
+bestRead top b ws = bestOf (bookView top b ws false) (lineOf (rowsOf ws (b .rows)))
+
+abbrev pub auditRead : ℕ → BookReconstructor → List ℕ → Audited
+auditRead top b ws = auditedOf (bookView top b ws false) (rowsOf ws (b .rows))

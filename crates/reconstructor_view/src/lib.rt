@@ -1,0 +1,126 @@
+// Whether a book may be read, and the reads whose answer is a value: `last_sequence`, `best`, `audit`.
+use book::BestPrice;
+use book_valid::AuditAnswer;
+use reconstructor_checks::Checked;
+use reconstructor_state::BookReconstructor;
+use reconstructor_state::Invalidation;
+use reconstructor_state::StateError;
+use reconstructor_state::Status;
+ghost use mathlib.Core.Path.{_≡_};
+ghost use mathlib.Core.Bool.{false};
+ghost use Rattle.book.specs.Rows.{ceiling};
+ghost use Rattle.reconstructor_state.specs.State.{lastOf};
+ghost use Rattle.reconstructor_checks.specs.Own.{checked};
+ghost use Rattle.reconstructor_view.specs.View.{standing, stateRead, bookView, viewed, lastSequence, bestRead, auditRead};
+ghost use Rattle.reconstructor_view.specs.Numbers.{viewErrorNumber};
+
+// Why no valid book is available: 1, 2, 3, 15, 18.
+pub enum ViewError {
+    Unusable(StateError),
+    // No snapshot yet.
+    NotBootstrapped,
+    // The segment has ended, and so.
+    Invalidated(Invalidation),
+}
+
+// A valid book's last sequence.
+pub enum Viewed {
+    Valid { last_seq: u64 },
+    Refused(ViewError),
+}
+
+pub enum BestAnswer {
+    Prices { bid: BestPrice, ask: BestPrice },
+    Refused(ViewError),
+}
+
+pub enum Audited {
+    Found(AuditAnswer),
+    Refused(ViewError),
+}
+
+impl ViewError {
+    pub fn number(self) -> u64
+        ensures { λ r. ⌜ r ≡ viewErrorNumber self ⌝ }
+    {
+        match self {
+            ViewError::Unusable(why) => why.number(),
+            ViewError::NotBootstrapped => 15,
+            ViewError::Invalidated(_) => 18,
+        }
+    }
+}
+
+// 1, 2 and 3 of a read. `short` says that the scratch it is lent, if any, is too short.
+pub fn read_checks(book: BookReconstructor, rows: &[u64], short: bool) -> Checked
+    ensures { λ r. ⌜ r ≡ checked (stateRead ceiling book (now (rows .entry)) short) ⌝ }
+{
+    let rules = book.rules;
+    if reconstructor_checks::over_ceiling(rules) {
+        return Checked::Refused(StateError::LimitAboveCeiling);
+    }
+    if (rows.len() < 8 * rules.max_orders) | short {
+        return Checked::Refused(StateError::LentTooShort);
+    }
+    if reconstructor_checks::broken(book, rows) {
+        return Checked::Refused(StateError::MalformedBook);
+    }
+    Checked::Passed
+}
+
+// 15 or 18, or the last sequence.
+fn valid_status(status: Status) -> Viewed
+    ensures { λ r. ⌜ r ≡ viewed (standing status) (lastOf status) ⌝ }
+{
+    match status {
+        Status::Empty => Viewed::Refused(ViewError::NotBootstrapped),
+        Status::Valid { last_seq } => Viewed::Valid { last_seq },
+        Status::Invalidated(invalidation) => Viewed::Refused(ViewError::Invalidated(invalidation)),
+    }
+}
+
+// The valid book's last sequence, or why there is no such book.
+pub fn valid_book(book: BookReconstructor, rows: &[u64], short: bool) -> Viewed
+    ensures { λ r. ⌜ r ≡ viewed (bookView ceiling book (now (rows .entry)) short) (lastOf (book .status)) ⌝ }
+{
+    match read_checks(book, rows, short) {
+        Checked::Refused(why) => Viewed::Refused(ViewError::Unusable(why)),
+        Checked::Passed => {
+            let status = book.status;
+            valid_status(status)
+        }
+    }
+}
+
+// The last sequence applied.
+pub fn last_sequence(book: BookReconstructor, rows: &[u64]) -> Viewed
+    ensures { λ r. ⌜ r ≡ lastSequence ceiling book (now (rows .entry)) ⌝ }
+{
+    valid_book(book, rows, false)
+}
+
+// Best bid and ask.
+pub fn best(book: BookReconstructor, rows: &[u64]) -> BestAnswer
+    ensures { λ r. ⌜ r ≡ bestRead ceiling book (now (rows .entry)) ⌝ }
+{
+    match valid_book(book, rows, false) {
+        Viewed::Refused(why) => BestAnswer::Refused(why),
+        Viewed::Valid { .. } => {
+            let n = book.rows;
+            BestAnswer::Prices {
+                bid: book::best_bid(rows, n),
+                ask: book::best_ask(rows, n),
+            }
+        }
+    }
+}
+
+// The invariants of a valid book: positive sizes, each id once, not crossed. Number 3 has recomputed them, so that nothing is left to find.
+pub fn audit(book: BookReconstructor, rows: &[u64]) -> Audited
+    ensures { λ r. ⌜ r ≡ auditRead ceiling book (now (rows .entry)) ⌝ }
+{
+    match valid_book(book, rows, false) {
+        Viewed::Refused(why) => Audited::Refused(why),
+        Viewed::Valid { .. } => Audited::Found(AuditAnswer::Ok),
+    }
+}
