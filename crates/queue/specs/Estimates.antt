@@ -1,0 +1,174 @@
+-- Queue estimates, and the volume ahead, for every input. 01, Reads: "1, 2, 3, then 15 or 18, then 8, 50 and the Rust's checks in its own order, 7 last".
+use Prim.Native.Nat.{ℕ, _*_, _-_}
+use mathlib.Core.Bool.{Bool, true, false, not, _||_, _&&_, cond}
+use mathlib.Core.List.{List, [], _∷_}
+use mathlib.Core.Option.{Option, none, some}
+use lib.Dec.{eqb, ltb}
+use lib.IntN.{ℤ}
+use lib.ListN.{length}
+use Rattle.message.specs.declared.L3Side.{L3Side}
+use Rattle.message.specs.declared.OrderId.{OrderId}
+use Rattle.message.specs.Amounts.{natOf}
+use Rattle.book.specs.declared.Resting.{Resting}
+use Rattle.book.specs.Rows.{ceiling, rowsOf, sideOf}
+use Rattle.book_levels.specs.Levels.{written}
+use Rattle.book_queue.specs.declared.EntryForm.the-variants.{Ahead}
+use Rattle.book_queue.specs.Queue.{rowsAt, entriesWords}
+use Rattle.reconstructor_state.specs.declared.SizeDecrease.{SizeDecrease}
+use Rattle.reconstructor_state.specs.declared.SizeDecrease.the-variants.{KeepsPriority, PriorityUnknown}
+use Rattle.reconstructor_state.specs.declared.SegmentName.{SegmentName}
+use Rattle.reconstructor_state.specs.declared.BookReconstructor.{BookReconstructor}
+use Rattle.reconstructor_state.specs.Checks.{check, first}
+use Rattle.reconstructor_state.specs.Segments.{sameSegment}
+use Rattle.reconstructor_state.specs.State.{lastOf}
+use Rattle.reconstructor_view.specs.View.{bookView}
+use Rattle.queue.specs.declared.Assumption.{Assumption}
+use Rattle.queue.specs.declared.Assumption.the-variants as assume
+use Rattle.queue.specs.declared.Anchor.{Anchor}
+use Rattle.queue.specs.declared.Anchor.the-variants.{Hypothetical, Own}
+use Rattle.queue.specs.declared.QueueEstimate.{QueueEstimate}
+use Rattle.queue.specs.declared.QueueAhead.{QueueAhead}
+use Rattle.queue.specs.declared.QueueError.{QueueError}
+use Rattle.queue.specs.declared.QueueError.the-variants as errors
+use Rattle.queue.specs.declared.EstimateAnswer.{EstimateAnswer}
+use Rattle.queue.specs.declared.EstimateAnswer.the-variants as estimates
+use Rattle.queue.specs.declared.AheadAnswer.{AheadAnswer}
+use Rattle.queue.specs.declared.AheadAnswer.the-variants as answers
+use Rattle.queue.specs.declared.Tally.{Tally}
+use Rattle.queue.specs.Ahead.{rowWith, enteredAt, entriesFrom, stillAhead, before, tallyOf}
+
+-- ---- parts
+
+-- the book's own segment: "the reconstructor's number .. with its place in the list"
+abbrev pub segmentOf : BookReconstructor → SegmentName
+segmentOf b = record { number = b .number; place = b .segments - 1 }
+
+-- the rule under which a decrease loses an order its place
+abbrev pub losesPlace : SizeDecrease → Bool
+losesPlace KeepsPriority = false
+losesPlace PriorityUnknown = true
+
+-- 51: "own order from a snapshot; under PriorityUnknown also an own order marked decreased"
+abbrev pub placeUnknown : SizeDecrease → Resting → Bool
+placeUnknown rule o = ltb (o .kind) 2 || (not (eqb (o .decreased) 0) && losesPlace rule)
+
+-- 52, then 51, of the own order, if it rests
+unfoldable pub ownRefusal : SizeDecrease → Option Resting → Option QueueError
+ownRefusal rule none = some errors.NotResting
+ownRefusal rule (some o) = check (placeUnknown rule o) errors.PriorityUnknown none
+
+-- ---- queue_estimate
+
+-- the answer, and the ahead-list afterwards
+pub record EstimateParts : Type 0 where
+  pub answer : EstimateAnswer
+  pub ahead : List ℕ
+
+abbrev pub estimateLeaves : EstimateAnswer → List ℕ → EstimateParts
+estimateLeaves a l = record { answer = a; ahead = l }
+
+-- a hypothetical order created now, behind the orders that rest there
+abbrev pub hypothetical : BookReconstructor → L3Side → ℕ → List Resting → QueueEstimate
+hypothetical b s p os =
+    record {
+      side = s;
+      price = p;
+      segment = segmentOf b;
+      anchor = Hypothetical (length (rowsAt s p os)) (lastOf (b .status));
+    }
+
+-- 7: "output too small, the list `queue_estimate` writes included"
+abbrev pub listed : QueueEstimate → List ℕ → List ℕ → EstimateParts
+listed e words l =
+    cond (ltb (length l) (length words)) (estimateLeaves (estimates.Refused errors.OutputTooSmall) l)
+    (estimateLeaves (estimates.Estimate e) (written words l))
+
+unfoldable pub estimated : Option QueueError → EstimateParts → List ℕ → EstimateParts
+estimated (some e) p l = estimateLeaves (estimates.Refused e) l
+estimated none p l = p
+
+-- a price that is not above zero is 0 here, which no row has
+abbrev pub queueEstimate : ℕ → BookReconstructor → List ℕ → L3Side → ℤ → List ℕ → EstimateParts
+queueEstimate top b ws s z l =
+    estimated (first (bookView top b ws false) errors.View none)
+    (listed (hypothetical b s (natOf z) (rowsOf ws (b .rows))) (entriesWords Ahead (rowsAt s (natOf z) (rowsOf ws (b .rows)))) l)
+    l
+
+-- ---- queue_estimate_own
+
+abbrev pub ownAnchor : BookReconstructor → OrderId → Option Resting → QueueEstimate
+ownAnchor b d none = record { side = sideOf 0; price = 0; segment = segmentOf b; anchor = Own d 0 }
+ownAnchor b d (some o) =
+    record { side = sideOf (o .kind); price = o .price; segment = segmentOf b; anchor = Own d (o .«entered_at») }
+
+unfoldable pub ownEstimated : Option QueueError → QueueEstimate → EstimateAnswer
+ownEstimated (some e) q = estimates.Refused e
+ownEstimated none q = estimates.Estimate q
+
+abbrev pub queueEstimateOwn : ℕ → BookReconstructor → List ℕ → OrderId → EstimateAnswer
+queueEstimateOwn top b ws d =
+    ownEstimated (first (bookView top b ws false) errors.View (ownRefusal (b .rules .«size_decrease») (rowWith d (rowsOf ws (b .rows)))))
+    (ownAnchor b d (rowWith d (rowsOf ws (b .rows))))
+
+-- ---- volume_ahead
+
+-- 8: "of an estimate that isn't of an own order: ahead-list above 4,096 orders, or under 3 words an order", the ceiling being an argument
+abbrev pub listShort : ℕ → Anchor → ℕ → Bool
+listShort top (Hypothetical k t) len = ltb top k || ltb len (3 * k)
+listShort top (Own d t) len = false
+
+unfoldable pub aheadRefusal : ℕ → BookReconstructor → List ℕ → QueueEstimate → List ℕ → Option QueueError
+aheadRefusal top b ws q l =
+    first (bookView top b ws false) errors.View
+    (check (listShort top (q .anchor) (length l)) errors.AheadListShort
+    (check (not (sameSegment (q .segment) (segmentOf b))) errors.StaleEstimate none))
+
+-- "the first by the estimate's kind, then SizeDecreaseKeepsPriority at most once": the second is told by a flag
+abbrev pub queueAhead : ℕ → Assumption → Bool → Tally → QueueAhead
+queueAhead at a own t =
+    record {
+      «at_seq» = at;
+      volume = t .volume;
+      «from_snapshot» = t .«from_snapshot»;
+      observed = t .observed;
+      orders = t .orders;
+      assumption = a;
+      «keeps_priority» = own || t .decreased;
+    }
+
+-- 51: "under PriorityUnknown .. a counted order ahead decreased after the estimate's sequence"
+unfoldable pub tallied : SizeDecrease → ℕ → Assumption → Bool → Tally → AheadAnswer
+tallied rule at a own t =
+    cond (t .decreased && losesPlace rule) (answers.Refused errors.PriorityUnknown) (answers.Ahead (queueAhead at a own t))
+
+unfoldable pub aheadOf : Option QueueError → AheadAnswer → AheadAnswer
+aheadOf (some e) a = answers.Refused e
+aheadOf none a = a
+
+-- whether the order is marked decreased
+abbrev pub marked : Option Resting → Bool
+marked none = false
+marked (some o) = not (eqb (o .decreased) 0)
+
+-- ahead of a hypothetical order: the orders of the list that still rest
+abbrev pub listAhead : SizeDecrease → ℕ → ℕ → ℕ → List ℕ → List Resting → AheadAnswer
+listAhead rule at k t l os = tallied rule at assume.BackOfVisibleQueueAtCreation false (tallyOf t (stillAhead os (entriesFrom l 0 k)))
+
+-- ahead of an own order: 52, also "resting with another entered_at", and 51; then those that rest before it at the estimate's side and price. "The
+-- estimate's sequence" is "an own order's entry"
+abbrev pub ownAhead : SizeDecrease → ℕ → L3Side → ℕ → OrderId → ℕ → List Resting → AheadAnswer
+ownAhead rule at s p d t os =
+    aheadOf (ownRefusal rule (enteredAt t (rowWith d os)))
+    (tallied rule at assume.EntrySequenceIsPriority (marked (enteredAt t (rowWith d os))) (tallyOf t (before d (rowsAt s p os))))
+
+abbrev pub anchorAhead : BookReconstructor → QueueEstimate → Anchor → List ℕ → List Resting → AheadAnswer
+anchorAhead b q (Hypothetical k t) l os = listAhead (b .rules .«size_decrease») (lastOf (b .status)) k t l os
+anchorAhead b q (Own d t) l os = ownAhead (b .rules .«size_decrease») (lastOf (b .status)) (q .side) (q .price) d t os
+
+abbrev pub volumeAhead : ℕ → BookReconstructor → List ℕ → QueueEstimate → List ℕ → AheadAnswer
+volumeAhead top b ws q l =
+    aheadOf (aheadRefusal top b ws q l) (anchorAhead b q (q .anchor) l (rowsOf ws (b .rows)))
+
+-- the assumptions as the Rust lists them
+abbrev pub assumptionsOf : QueueAhead → List Assumption
+assumptionsOf a = a .assumption ∷ cond (a .«keeps_priority») (assume.SizeDecreaseKeepsPriority ∷ []) []

@@ -1,0 +1,4 @@
+pub mod Ahead
+pub mod Steps
+pub mod Estimates
+pub mod Numbers
