@@ -1,9 +1,9 @@
 -- Reads of a book: when they are turned away, and those whose answer is a value. 01, Reads: "1, 2, 3, then 15 or 18".
-use Prim.Native.Nat.{ℕ, _*_}
-use mathlib.Core.Bool.{Bool, false, _||_}
+use Prim.Native.Nat.{ℕ, _*_, _/_}
+use mathlib.Core.Bool.{Bool, false, _||_, cond}
 use mathlib.Core.List.{List}
 use mathlib.Core.Option.{Option, none, some}
-use lib.Dec.{ltb}
+use lib.Dec.{leb, ltb}
 use lib.ListN.{length}
 use Rattle.message.specs.declared.L3Side.the-variants.{Buy, Sell}
 use Rattle.book.specs.declared.Resting.{Resting}
@@ -17,6 +17,7 @@ use Rattle.reconstructor_state.specs.declared.StateError.{StateError}
 use Rattle.reconstructor_state.specs.declared.StateError.the-variants.{LimitAboveCeiling, LentTooShort, MalformedBook}
 use Rattle.reconstructor_state.specs.declared.BookReconstructor.{BookReconstructor}
 use Rattle.reconstructor_state.specs.Checks.{check, first}
+use Rattle.reconstructor_state.specs.Segments.{segmentAt}
 use Rattle.reconstructor_state.specs.State.{lastOf}
 use Rattle.reconstructor_checks.specs.Own.{overCeiling, broken}
 use Rattle.reconstructor_view.specs.declared.ViewError.{ViewError}
@@ -25,6 +26,10 @@ use Rattle.reconstructor_view.specs.declared.Viewed.{Viewed}
 use Rattle.reconstructor_view.specs.declared.Viewed.the-variants as views
 use Rattle.reconstructor_view.specs.declared.BestAnswer.{BestAnswer}
 use Rattle.reconstructor_view.specs.declared.BestAnswer.the-variants as bests
+use Rattle.reconstructor_view.specs.declared.InvalidationAnswer.{InvalidationAnswer}
+use Rattle.reconstructor_view.specs.declared.InvalidationAnswer.the-variants as reasons
+use Rattle.reconstructor_view.specs.declared.SegmentAnswer.{SegmentAnswer}
+use Rattle.reconstructor_view.specs.declared.SegmentAnswer.the-variants as records
 use Rattle.reconstructor_view.specs.declared.Audited.{Audited}
 use Rattle.reconstructor_view.specs.declared.Audited.the-variants as audits
 
@@ -80,3 +85,17 @@ bestRead top b ws = bestOf (bookView top b ws false) (lineOf (rowsOf ws (b .rows
 
 abbrev pub auditRead : ℕ → BookReconstructor → List ℕ → Audited
 auditRead top b ws = auditedOf (bookView top b ws false) (rowsOf ws (b .rows))
+
+-- ---- the state's own fields and the lent list, whatever the standing
+
+-- the invalidation in force
+abbrev pub invalidationOf : Status → InvalidationAnswer
+invalidationOf statuses.Empty = reasons.NotInvalid
+invalidationOf (statuses.Valid last) = reasons.NotInvalid
+invalidationOf (statuses.Invalidated i) = reasons.InForce i
+
+-- the record at a place: one of the book's, and within the list
+unfoldable pub segmentRead : BookReconstructor → List ℕ → ℕ → SegmentAnswer
+segmentRead b sg k =
+    cond (leb (b .segments) k) records.NoRecord
+    (cond (leb (length sg / 8) k) records.NoRecord (records.Record (segmentAt sg k)))

@@ -4,6 +4,7 @@ use book_valid::AuditAnswer;
 use reconstructor_checks::Checked;
 use reconstructor_state::BookReconstructor;
 use reconstructor_state::Invalidation;
+use reconstructor_state::Segment;
 use reconstructor_state::StateError;
 use reconstructor_state::Status;
 ghost use mathlib.Core.Path.{_≡_};
@@ -11,7 +12,7 @@ ghost use mathlib.Core.Bool.{false};
 ghost use Rattle.book.specs.Rows.{ceiling};
 ghost use Rattle.reconstructor_state.specs.State.{lastOf};
 ghost use Rattle.reconstructor_checks.specs.Own.{checked};
-ghost use Rattle.reconstructor_view.specs.View.{standing, stateRead, bookView, viewed, lastSequence, bestRead, auditRead};
+ghost use Rattle.reconstructor_view.specs.View.{standing, stateRead, bookView, viewed, lastSequence, bestRead, auditRead, invalidationOf, segmentRead};
 ghost use Rattle.reconstructor_view.specs.Numbers.{viewErrorNumber};
 
 // Why no valid book is available: 1, 2, 3, 15, 18.
@@ -37,6 +38,18 @@ pub enum BestAnswer {
 pub enum Audited {
     Found(AuditAnswer),
     Refused(ViewError),
+}
+
+// The invalidation in force, if any.
+pub enum InvalidationAnswer {
+    InForce(Invalidation),
+    NotInvalid,
+}
+
+pub enum SegmentAnswer {
+    Record(Segment),
+    // The book has no segment at that place, or the list lent is too short for it.
+    NoRecord,
 }
 
 impl ViewError {
@@ -123,4 +136,29 @@ pub fn audit(book: BookReconstructor, rows: &[u64]) -> Audited
         Viewed::Refused(why) => Audited::Refused(why),
         Viewed::Valid { .. } => Audited::Found(AuditAnswer::Ok),
     }
+}
+
+// Why the current segment is invalid, if it is.
+pub fn invalidation(book: BookReconstructor) -> InvalidationAnswer
+    ensures { λ r. ⌜ r ≡ invalidationOf (book .status) ⌝ }
+{
+    let status = book.status;
+    match status {
+        Status::Empty => InvalidationAnswer::NotInvalid,
+        Status::Valid { .. } => InvalidationAnswer::NotInvalid,
+        Status::Invalidated(invalidation) => InvalidationAnswer::InForce(invalidation),
+    }
+}
+
+// The record of the segment at a place of the list. With the counts, which are a field of the book, it makes up the Rust's manifest.
+pub fn segment(book: BookReconstructor, segments: &[u64], place: usize) -> SegmentAnswer
+    ensures { λ r. ⌜ r ≡ segmentRead book (now (segments .entry)) place ⌝ }
+{
+    if place >= book.segments {
+        return SegmentAnswer::NoRecord;
+    }
+    if place >= segments.len() / 8 {
+        return SegmentAnswer::NoRecord;
+    }
+    SegmentAnswer::Record(reconstructor_state::get_segment(segments, place))
 }

@@ -1,5 +1,5 @@
--- 01's table and figures, as far as `apply` goes, on its book E, by computation: one list of calls with the number that each must give (stars: 20, 21, 22,
--- 30, 31, 33, 35, 36, 41), and the figures C2 and C3 as far as rows go.
+-- 01's table and figures on its book E, by computation: lists of calls with the number that each must give (stars: 13, 20, 21, 22, 30, 31, 33, 35, 36, 41),
+-- and the figures C1, C2 and C3. 9 is a handshake's, and comes with it.
 -- Assumes nothing.
 use Prim.Native.Nat.{ℕ}
 use mathlib.Core.Path.{_≡_, refl}
@@ -14,7 +14,7 @@ use Rattle.message.specs.declared.ChangeReason.the-variants.{Stp}
 use Rattle.message.specs.declared.L3Event.{L3Event}
 use Rattle.message.specs.declared.L3Event.the-variants.{Received, Open, Done, Match, Change, Unsupported}
 use Rattle.message.specs.declared.L3Message.{L3Message}
-use Rattle.message.specs.Values.{inRange, optionalInRange, eventInRange}
+use Rattle.message.specs.Values.{inRange, optionalInRange, eventInRange, orderInRange, ordersInRange}
 use Rattle.message.specs.Same.{sameId, sameProduct}
 use Rattle.message.specs.Amounts.{differs, givenDiffers, absentOrDiffers}
 use Rattle.book.specs.Line.{volume}
@@ -31,9 +31,34 @@ use Rattle.reconstructor_state.specs.Segments.{setSegment}
 use Rattle.reconstructor_state.specs.State.{limitedRules}
 use Rattle.reconstructor_checks.specs.Own.{broken, stateRefusal}
 use Rattle.reconstructor_plan.specs.Rules.{openRefusal, doneRefusal, makerRefusal, changeRefusal, sizeRefusal, eventRefusal, effect, counterOf, eventDeed}
 use Rattle.reconstructor.specs.Refusals.{admitRefusal, gateRefusal, turnRefusal}
 use Rattle.reconstructor.specs.Applied.{Parts, refusedReply, invalidatedReply, acceptedReply, accepted, recorded, settled, gated, applied}
 use Rattle.reconstructor_state.specs.declared.ApplyAnswer.the-variants as answers
+use mathlib.Core.Bool.{false}
+use Rattle.message.specs.declared.SnapshotOrder.{SnapshotOrder}
+use Rattle.piece.specs.Bytes.{part, little, big, littleBytes, bigBytes}
+use Rattle.piece.specs.Piece.{readSnapshot, snapshotShaped, snapshotOf, bidsAt, asksAt, ordersFrom, orderAt, orderFrom, amountAt, wordAt, orderIdAt, productIdAt}
+use Rattle.piece.specs.Encode.{snapshotBytes}
+use Rattle.reconstructor_bootstrap.specs.Numbers.{snapshotNumber}
+use Rattle.reconstructor_bootstrap.specs.Snapshot.{lineRefusal, snapshotRefusal, acceptRefusal, bootRefusal}
+use Rattle.reconstructor_bootstrap.specs.Bootstrap.{Parts as SnapshotParts, bootstrapped, closed}
+use Rattle.reconstructor_view.specs.declared.Audited.{Audited}
+use Rattle.reconstructor_view.specs.declared.Audited.the-variants as audits
+use Rattle.reconstructor_view.specs.Numbers.{viewErrorNumber}
+use Rattle.reconstructor_view.specs.View.{readRefusal, viewRefusal, auditedOf, auditRead}
+use Rattle.reconstructor_reads.specs.Numbers.{levelNumber}
+use Rattle.reconstructor_reads.specs.Reads.{shown, levelRead, levelQueue, l2}
+use Rattle.queue.specs.declared.Assumption.the-variants.{EntrySequenceIsPriority}
+use Rattle.queue.specs.declared.Anchor.the-variants.{Hypothetical}
+use Rattle.queue.specs.declared.QueueEstimate.{QueueEstimate}
+use Rattle.queue.specs.declared.QueueAhead.{QueueAhead}
+use Rattle.queue.specs.declared.EstimateAnswer.{EstimateAnswer}
+use Rattle.queue.specs.declared.EstimateAnswer.the-variants as estimates
+use Rattle.queue.specs.declared.AheadAnswer.{AheadAnswer}
+use Rattle.queue.specs.declared.AheadAnswer.the-variants as queues
+use Rattle.queue.specs.Numbers.{estimateNumber, aheadNumber}
+use Rattle.queue.specs.Ahead.{entriesFrom}
+use Rattle.queue.specs.Estimates.{ownRefusal, ownEstimated, queueEstimateOwn, aheadRefusal, tallied, aheadOf, volumeAhead}
 
 -- ---- E: "the book of product P, limits 3 and 3, snapshot at 100: buy A price 10 size 2, sell B price 12 size 3 (units)"
 
@@ -160,7 +185,71 @@ table =
     row 44 (onE (now (Unsupported 7))) ∷
     []
 
--- ---- C2, C3
+-- ---- snapshots
+
+abbrev order : ℕ → ℕ → ℕ → SnapshotOrder
+order k price size = record { «order_id» = id k; price = pos price; size = pos size }
+
+abbrev snapshot : List SnapshotOrder → List SnapshotOrder → List ℕ
+snapshot bids asks = snapshotBytes (record { «product_id» = product 80; sequence = 100; bids = bids; asks = asks })
+
+-- a fresh book of product P, limits 3 and 3, lent so many words of a list, and a snapshot piece
+abbrev load : List ℕ → List ℕ → SnapshotParts
+load list bytes = bootstrapped ceiling (book Empty 3 0 0) rowsE list bytes
+
+pub record Load : Type 0 where
+  pub number : ℕ
+  pub list : List ℕ
+  pub bytes : List ℕ
+
+abbrev snapshots : List Load
+snapshots =
+    record { number = 0; list = listE; bytes = snapshot (order 1 10 2 ∷ []) (order 2 12 3 ∷ []) } ∷
+    record { number = 4; list = listE; bytes = [] } ∷
+    record { number = 6; list = []; bytes = snapshot (order 1 10 2 ∷ []) [] } ∷
+    record { number = 11; list = listE; bytes = snapshot (order 1 10 2 ∷ order 1 10 2 ∷ []) [] } ∷
+    record { number = 12; list = listE; bytes = snapshot (order 1 10 0 ∷ []) [] } ∷
+    record { number = 13; list = listE; bytes = snapshot (order 1 5 2 ∷ []) (order 2 5 3 ∷ []) } ∷
+    record { number = 14; list = listE; bytes = snapshot (order 1 10 2 ∷ order 2 10 2 ∷ order 3 10 2 ∷ order 4 10 2 ∷ []) [] } ∷
+    []
+
+-- ---- reads, on E and on what calls left
+
+abbrev scratch : List ℕ
+scratch = 5 ∷ 5 ∷ 5 ∷ []
+
+-- E after a gap
+abbrev gap : Call
+gap = onE (at 102 (Received z Buy))
+
+abbrev own : BookReconstructor → List ℕ → OrderId → EstimateAnswer
+own b ws d = queueEstimateOwn ceiling b ws d
+
+-- the volume ahead that an estimate leads to
+abbrev aheadFrom : BookReconstructor → List ℕ → EstimateAnswer → List ℕ → AheadAnswer
+aheadFrom b ws (estimates.Estimate q) l = volumeAhead ceiling b ws q l
+aheadFrom b ws (estimates.Refused e) l = queues.Refused e
+
+abbrev auditNumber : Audited → ℕ
+auditNumber (audits.Found a) = 0
+auditNumber (audits.Refused e) = viewErrorNumber e
+
+-- a hypothetical order's estimate on E, with one order ahead, of a segment's place
+abbrev guess : ℕ → QueueEstimate
+guess place = record { side = Buy; price = 10; segment = record { number = 1; place = place }; anchor = Hypothetical 1 100 }
+
+abbrev reads : List ℕ
+reads =
+    levelNumber (levelQueue ceiling (onE (now (Received z Buy)) .book) rowsE scratch Buy (pos 10) [] .answer) ∷
+    aheadNumber (volumeAhead ceiling (onE (now (Received z Buy)) .book) rowsE (guess 0) (0 ∷ 1 ∷ [])) ∷
+    levelNumber (l2 ceiling (book Empty 3 0 0) rowsE scratch Buy [] .answer) ∷
+    auditNumber (auditRead ceiling (after gap .book) (after gap .rows)) ∷
+    aheadNumber (volumeAhead ceiling (book (Valid 100) 3 2 2) rowsE (guess 0) (0 ∷ 1 ∷ 100 ∷ [])) ∷
+    estimateNumber (own (onE (now (Received z Buy)) .book) rowsE a) ∷
+    estimateNumber (own (onE (now (Received z Buy)) .book) rowsE z) ∷
+    []
+
+-- ---- C1, C2, C3
 
 abbrev matched : Call
 matched = next opened (at 102 (Match a z Buy (pos 10) (pos 2)))
@@ -168,11 +257,30 @@ matched = next opened (at 102 (Match a z Buy (pos 10) (pos 2)))
 abbrev canceled : Call
 canceled = onE (now (Done z Buy Absent Canceled Absent))
 
+-- an own order's figure: when it was read, the volume ahead, all of it from the snapshot, and the number of orders
+abbrev figure : ℕ → ℕ → ℕ → QueueAhead
+figure at volume orders =
+    record {
+      «at_seq» = at;
+      volume = volume;
+      «from_snapshot» = volume;
+      observed = 0;
+      orders = orders;
+      assumption = EntrySequenceIsPriority;
+      «keeps_priority» = false;
+    }
+
 pub record Stars : Type 0 where
-  -- every example of the table gives its number
+  -- every example of the table gives its number: of messages, of snapshots, of reads
   pub numbers : map (λ (r : Row). number (after (r .example) .answer)) table ≡ map (λ (r : Row). r .number) table
+  pub loads : map (λ (r : Load). snapshotNumber (load (r .list) (r .bytes) .answer)) snapshots ≡ map (λ (r : Load). r .number) snapshots
+  pub reads : reads ≡ 7 ∷ 8 ∷ 15 ∷ 18 ∷ 50 ∷ 51 ∷ 52 ∷ []
+  -- C1: "E, open C buy 10 size 5 at 101: own estimate of C gives volume 2, from snapshot 2, observed 0, orders 1"
+  pub c1 : aheadFrom (after opened .book) (after opened .rows) (own (after opened .book) (after opened .rows) o) [] ≡ queues.Ahead (figure 101 2 1)
   -- C2: "E, open C buy 10 size 5 at 101 .. then match A size 2 at 102, taker Z: level 10 totals 5"
   pub c2 : volume Buy 10 (lineOf (rowsOf (after matched .rows) (after matched .book .rows))) ≡ 5
+  -- "C has 0 ahead", by the estimate that was made before the match
+  pub c2-ahead : aheadFrom (after matched .book) (after matched .rows) (own (after opened .book) (after opened .rows) o) [] ≡ queues.Ahead (figure 102 0 0)
   -- and the words: B and C move down, the freed row is zeroed, the words past it are untouched, the segment is good to 102
   pub c2-rows : after matched .rows ≡ 0 ∷ 2 ∷ 12 ∷ 3 ∷ 1 ∷ 100 ∷ 0 ∷ 0 ∷ 0 ∷ 3 ∷ 10 ∷ 5 ∷ 2 ∷ 101 ∷ 0 ∷ 0 ∷ 0 ∷ 0 ∷ 0 ∷ 0 ∷ 0 ∷ 0 ∷ 0 ∷ 0 ∷ 9 ∷ []
   pub c2-list : after matched .segments ≡ 100 ∷ 102 ∷ 0 ∷ 0 ∷ 0 ∷ 0 ∷ 5 ∷ 5 ∷ []
@@ -181,5 +289,5 @@ pub record Stars : Type 0 where
   pub c3-applied : after canceled .book .status ≡ Valid 101
 
 pub stars : Stars
-unfolding applied gated settled recorded accepted acceptedReply invalidatedReply refusedReply turnRefusal gateRefusal admitRefusal stateRefusal broken eventDeed counterOf effect eventRefusal sizeRefusal changeRefusal makerRefusal doneRefusal openRefusal check first saturated setSegment rowsFrom stored sideOf rowBroken inRange optionalInRange eventInRange differs givenDiffers absentOrDiffers sameId sameProduct
-stars = record { numbers = refl; c2 = refl; c2-rows = refl; c2-list = refl; c3-rows = refl; c3-applied = refl }
+unfolding applied gated settled recorded accepted acceptedReply invalidatedReply refusedReply turnRefusal gateRefusal admitRefusal stateRefusal broken eventDeed counterOf effect eventRefusal sizeRefusal changeRefusal makerRefusal doneRefusal openRefusal check first saturated setSegment rowsFrom stored sideOf rowBroken inRange optionalInRange eventInRange differs givenDiffers absentOrDiffers sameId sameProduct viewRefusal readRefusal auditedOf shown levelRead ownRefusal ownEstimated aheadRefusal tallied aheadOf entriesFrom bootstrapped closed bootRefusal acceptRefusal snapshotRefusal lineRefusal readSnapshot snapshotShaped snapshotOf bidsAt asksAt ordersFrom orderAt orderFrom amountAt wordAt orderIdAt productIdAt part little big littleBytes bigBytes orderInRange ordersInRange
+stars = record { numbers = refl; loads = refl; reads = refl; c1 = refl; c2 = refl; c2-ahead = refl; c2-rows = refl; c2-list = refl; c3-rows = refl; c3-applied = refl }
