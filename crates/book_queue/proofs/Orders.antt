@@ -42,10 +42,10 @@ width-entries Ahead (o ∷ os) = let ih = width-entries Ahead os in omega (arith
 -- ---- the sum rule's queue order is that of the rows there
 
 -- what the ledger's queue order has of an order
-abbrev idAndSize : Resting → (OrderId × ℕ)
+abbrev pub idAndSize : Resting → (OrderId × ℕ)
 idAndSize o = (idOf o, o .remaining)
 
-abbrev shownQueue : List Resting → List (OrderId × ℕ)
+abbrev pub shownQueue : List Resting → List (OrderId × ℕ)
 shownQueue [] = []
 shownQueue (o ∷ os) = idAndSize o ∷ shownQueue os
 
