@@ -277,7 +277,9 @@ impl Ported {
             }
             Act::Apply { piece } => {
                 let Ok(message) = shape_message(piece) else {
-                    return Some((4, Values::Nothing));
+                    // No value to apply: the reader says so.
+                    let mut out = [0; port::MESSAGE_WORDS];
+                    return Some((port::read_message(piece, &mut out), Values::Nothing));
                 };
                 let words = message_words(&message);
                 let answer = book.lend(&call.lent, |state, rows, segments| {
@@ -335,12 +337,15 @@ impl Subject for Ported {
     }
 }
 
-/// What a run met: calls made, and how often each number was answered by `bootstrap` and `apply`.
+/// What a run met: calls made, how often each number was answered by `bootstrap` and `apply` (16 by its reason), the most rows that a
+/// snapshot or message left in a book, and the most that messages added since its snapshot.
 #[derive(Debug, Default)]
 pub struct Tally {
     pub calls: u64,
     pub bootstrap: BTreeMap<u8, u64>,
     pub apply: BTreeMap<u8, u64>,
+    pub most_rows: u64,
+    pub most_grown: u64,
 }
 
 impl Tally {
@@ -354,7 +359,39 @@ impl Tally {
                 *sum.entry(number).or_default() += times;
             }
         }
+        self.most_rows = self.most_rows.max(other.most_rows);
+        self.most_grown = self.most_grown.max(other.most_grown);
     }
+
+    fn note(&mut self, act: &Act, said: &Said, seen: &mut Seen) {
+        let Some(state) = said.state else { return };
+        seen.last = state.last_sequence;
+        let numbers = match act {
+            Act::Bootstrap { .. } => &mut self.bootstrap,
+            Act::Apply { .. } => &mut self.apply,
+            _ => return,
+        };
+        let number = match &said.values {
+            Values::Invalidation(why) if said.number == 16 => why.reason,
+            _ => said.number,
+        };
+        *numbers.entry(number).or_default() += 1;
+        if number == 0 {
+            if let Act::Bootstrap { .. } = act {
+                seen.loaded = state.rows;
+            }
+            self.most_rows = self.most_rows.max(state.rows);
+            let grown = state.rows.saturating_sub(seen.loaded);
+            self.most_grown = self.most_grown.max(grown);
+        }
+    }
+}
+
+/// What the run knows of a book: its last sequence, and the rows of its latest snapshot.
+#[derive(Clone, Copy, Default)]
+struct Seen {
+    last: u64,
+    loaded: u64,
 }
 
 /// The call as the port can be asked: a handshake's step becomes an `apply`, unless its message is old and would have been dropped.
@@ -386,12 +423,12 @@ fn take_levels(ours: &mut Answer, judged: &Answer) {
 pub fn compare(seed: u64, count: u64) -> Result<Tally, String> {
     let mut generator = Generator::new(seed);
     let (mut port, mut model) = (Ported::new(), Model::new());
-    let mut last: BTreeMap<u8, u64> = BTreeMap::new();
+    let mut seen: BTreeMap<u8, Seen> = BTreeMap::new();
     let mut tally = Tally::default();
     while tally.calls < count {
         let ask = |call: Call| {
-            let sequence = last.get(&call.book).copied().unwrap_or(0);
-            asked(call, sequence)
+            let last = seen.get(&call.book).map_or(0, |book| book.last);
+            asked(call, last)
         };
         let Some((call, theirs)) = generator.next_asked(ask) else {
             continue;
@@ -409,17 +446,7 @@ pub fn compare(seed: u64, count: u64) -> Result<Tally, String> {
         }
         tally.calls += 1;
         if let Answer::Said(said) = &ours {
-            last.insert(call.book, said.state.map_or(0, |s| s.last_sequence));
-            let numbers = match call.act {
-                Act::Bootstrap { .. } => &mut tally.bootstrap,
-                Act::Apply { .. } => &mut tally.apply,
-                _ => continue,
-            };
-            let number = match &said.values {
-                Values::Invalidation(why) if said.number == 16 => why.reason,
-                _ => said.number,
-            };
-            *numbers.entry(number).or_default() += 1;
+            tally.note(&call.act, said, seen.entry(call.book).or_default());
         }
     }
     Ok(tally)

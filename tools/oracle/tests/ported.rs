@@ -4,6 +4,7 @@
 //! stream fills a book to the ceiling.
 #![cfg(feature = "port")]
 
+use oracle::call::CEILING;
 use oracle::ported::{Tally, compare};
 
 /// Calls of a short stream.
@@ -17,7 +18,7 @@ fn agree(seed: u64, calls: u64) -> Tally {
     compare(seed, calls).unwrap_or_else(|difference| panic!("{difference}"))
 }
 
-/// Every number that 01 gives the two calls was answered, and most messages were applied.
+/// Every number that 01 gives the two calls was answered (16 with each of its reasons, 4 by the reader), and most messages were applied.
 fn reaches_every_number(tally: &Tally) {
     for number in [0, 1, 2, 3, 4, 5, 6, 10, 11, 12, 13, 14] {
         assert!(
@@ -26,10 +27,16 @@ fn reaches_every_number(tally: &Tally) {
         );
     }
     let reasons = (20..=22).chain(30..=44);
-    for number in [0, 1, 2, 3, 5, 10, 15, 17].into_iter().chain(reasons) {
+    for number in [0, 1, 2, 3, 4, 5, 10, 15, 17].into_iter().chain(reasons) {
         assert!(tally.apply.contains_key(&number), "apply says {number}");
     }
     assert!(tally.apply[&0] > tally.calls / 4, "messages are applied");
+}
+
+/// A book was filled to the ceiling, and one by messages alone but for the few orders of its snapshot.
+fn fills_a_book(tally: &Tally) {
+    assert_eq!(tally.most_rows, CEILING, "a book has 4,096 rows");
+    assert!(tally.most_grown > CEILING - 100, "messages fill a book");
 }
 
 #[test]
@@ -49,4 +56,5 @@ fn a_long_stream_agrees() {
     let tally = agree(seed, calls);
     println!("seed {seed}: {tally:?}");
     reaches_every_number(&tally);
+    fills_a_book(&tally);
 }
