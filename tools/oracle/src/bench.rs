@@ -1,6 +1,8 @@
 //! The benchmarks of docs/PERFORMANCE.md: the port and the Rust on the same input, from one driver, in one run.
 
 mod apply;
+mod books;
+mod bootstrap;
 mod pieces;
 mod rows;
 
@@ -24,10 +26,25 @@ fn best(calls: usize, mut call: impl FnMut()) -> f64 {
         .fold(f64::INFINITY, f64::min)
 }
 
-pub fn run() {
-    pieces::run();
-    println!();
-    rows::run();
-    println!();
-    apply::run();
+/// The benchmarks by name.
+const ALL: [(&str, fn()); 4] = [
+    ("pieces", pieces::run),
+    ("rows", rows::run),
+    ("apply", apply::run),
+    ("bootstrap", bootstrap::run),
+];
+
+/// Runs the named benchmarks, or all; an unknown name is refused.
+pub fn run(names: &[&str]) -> Result<(), String> {
+    let known = |name: &&&str| ALL.iter().all(|(of, _)| of != *name);
+    if let Some(name) = names.iter().find(known) {
+        return Err(format!("no benchmark {name}"));
+    }
+    for (name, run) in ALL {
+        if names.is_empty() || names.contains(&name) {
+            run();
+            println!();
+        }
+    }
+    Ok(())
 }

@@ -12,7 +12,7 @@ use oracle::pieces;
 use oracle::rust::Rust;
 
 const USAGE: &str = "usage: oracle gen SEED N | run | model | compare SEED N | pieces DIR
-with the feature `port`: oracle reader SEED N | port SEED N | bench | show";
+with the feature `port`: oracle reader SEED N | port SEED N | bench [NAME ..] | show";
 
 fn main() -> ExitCode {
     let args: Vec<String> = std::env::args().skip(1).collect();
@@ -28,7 +28,7 @@ fn main() -> ExitCode {
         #[cfg(feature = "port")]
         ["port", seed, count] => numbers(seed, count).and_then(|(s, n)| ported(s, n)),
         #[cfg(feature = "port")]
-        ["bench"] => Ok(oracle::bench::run()),
+        ["bench", names @ ..] => oracle::bench::run(names),
         #[cfg(feature = "port")]
         ["show"] => Ok(oracle::show::run()),
         _ => Err(USAGE.to_string()),

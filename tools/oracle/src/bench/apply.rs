@@ -3,25 +3,15 @@
 use std::hint::black_box;
 use std::time::Instant;
 
+use super::books::{self, Ours, PRODUCT, SIZE};
 use super::{ROUNDS, SIZES};
-use crate::call::{Rules, SizeDecrease};
 use crate::generate::random::Random;
 use crate::l3::message::L3Message;
-use crate::l3::reconstructor::BookReconstructor;
 use crate::piece::{
     ChangeReason, DoneReason, Event, Id, Message, Side, Snapshot, SnapshotOrder, encode_snapshot,
 };
-use crate::port;
 use crate::reader::message_words;
 use crate::rust::convert;
-
-const PRODUCT: [u8; 16] = [0; 16];
-const SIZE: i64 = 1_000_000_000;
-const RULES: Rules = Rules {
-    size_decrease: SizeDecrease::KeepsPriority,
-    max_orders: 4_096,
-    max_levels: 4_096,
-};
 
 #[derive(Clone, Copy)]
 struct Resting {
@@ -127,17 +117,12 @@ fn best<B, M>(messages: &[M], fresh: impl Fn() -> B, mut apply: impl FnMut(&mut 
 fn ours(piece: &[u8], messages: &[Message]) -> f64 {
     let words: Vec<Vec<u64>> = messages.iter().map(message_words).collect();
     let fresh = || {
-        let mut block = [0; port::BLOCK_WORDS];
-        (block[3], block[4]) = (RULES.max_orders, RULES.max_levels);
-        let (mut rows, mut segments) = (vec![0; 8 * 4_096], vec![0; 8 * 4]);
-        assert_eq!(
-            port::bootstrap(&mut block, &mut rows, &mut segments, piece),
-            0
-        );
-        (block, rows, segments)
+        let mut book = Ours::fresh();
+        assert_eq!(book.bootstrap(piece), 0);
+        book
     };
-    best(&words, fresh, |(block, rows, segments), message| {
-        assert_eq!(port::apply(block, rows, segments, message) % 256, 0);
+    best(&words, fresh, |book, message| {
+        assert_eq!(book.apply(message) % 256, 0);
     })
 }
 
@@ -145,8 +130,7 @@ fn theirs(snapshot: &Snapshot, messages: &[Message], audited: bool) -> f64 {
     let messages: Vec<L3Message> = messages.iter().map(convert::message).collect();
     let snapshot = convert::snapshot(snapshot);
     let fresh = || {
-        let name = convert::product_text(&PRODUCT);
-        let mut book = BookReconstructor::new(name, convert::rules(&RULES));
+        let mut book = books::theirs();
         book.bootstrap(&snapshot).expect("the snapshot is sound");
         book
     };

@@ -3,8 +3,7 @@
 use std::collections::{HashMap, HashSet};
 use std::hint::black_box;
 
-use super::{SIZES, best};
-use crate::call::{Rules, SizeDecrease};
+use super::{SIZES, best, books};
 use crate::generate::random::Random;
 use crate::l3::reconstructor::BookReconstructor;
 use crate::piece::{Snapshot, SnapshotOrder};
@@ -49,16 +48,10 @@ fn theirs(words: &[u64]) -> BookReconstructor {
         let rows = words.chunks_exact(WORDS);
         rows.filter(|r| r[4] % 2 == kind).map(order).collect()
     };
-    let rules = Rules {
-        size_decrease: SizeDecrease::KeepsPriority,
-        max_orders: 4_096,
-        max_levels: 4_096,
-    };
-    let product = [0; 16];
-    let mut book = BookReconstructor::new(convert::product_text(&product), convert::rules(&rules));
+    let mut book = books::theirs();
     let (bids, asks) = (side(0), side(1));
     let snapshot = Snapshot {
-        product,
+        product: books::PRODUCT,
         sequence: 1,
         bids,
         asks,
