@@ -4,6 +4,8 @@ mod apply;
 mod books;
 mod bootstrap;
 mod pieces;
+#[cfg(feature = "reads")]
+mod reads;
 mod rows;
 
 use std::time::Instant;
@@ -27,11 +29,13 @@ fn best(calls: usize, mut call: impl FnMut()) -> f64 {
 }
 
 /// The benchmarks by name.
-const ALL: [(&str, fn()); 4] = [
+const ALL: &[(&str, fn())] = &[
     ("pieces", pieces::run),
     ("rows", rows::run),
     ("apply", apply::run),
     ("bootstrap", bootstrap::run),
+    #[cfg(feature = "reads")]
+    ("reads", reads::run),
 ];
 
 /// Runs the named benchmarks, or all; an unknown name is refused.
@@ -40,7 +44,7 @@ pub fn run(names: &[&str]) -> Result<(), String> {
     if let Some(name) = names.iter().find(known) {
         return Err(format!("no benchmark {name}"));
     }
-    for (name, run) in ALL {
+    for &(name, run) in ALL {
         if names.is_empty() || names.contains(&name) {
             run();
             println!();

@@ -35,13 +35,13 @@ const BUILD_START: u64 = 5_000;
 const BUILD_LIFE: u64 = 5_700;
 const BUILD_SHARE: u64 = 25;
 
-/// Enough for every call.
+/// Enough for every call, and for a forged list of one order too many.
 const PLENTY: Lent = Lent {
     rows: u64::MAX,
     segments: u64::MAX,
     scratch: CEILING,
     output: 5 * CEILING,
-    ahead: 3 * CEILING,
+    ahead: 3 * CEILING + 3,
 };
 
 const PRODUCTS: [&[u8; 16]; 3] = [

@@ -1,6 +1,9 @@
 //! The port, called as a host calls it: the functions that crate `host` exports. A slice crosses as a pointer and a length.
 //!
-//! The declarations are by hand: nothing checks them against the source of crate `host`, so the runs of `reader.rs` do.
+//! The declarations are by hand: nothing checks them against the source of crate `host`, so the runs of `reader.rs` and `ported.rs` do.
+
+#[cfg(feature = "reads")]
+pub mod reads;
 
 mod exported {
     unsafe extern "C" {

@@ -18,19 +18,43 @@ fn agree(seed: u64, calls: u64) -> Tally {
     compare(seed, calls).unwrap_or_else(|difference| panic!("{difference}"))
 }
 
-/// Every number that 01 gives the two calls was answered (16 with each of its reasons, 4 by the reader), and most messages were applied.
+/// The numbers that 01 gives each call: of `apply` 16 with each of its reasons, and 4 by the reader.
+const NUMBERS: &[(&str, &[u8])] = &[
+    ("bootstrap", &[0, 1, 2, 3, 4, 5, 6, 10, 11, 12, 13, 14]),
+    ("apply", &[0, 1, 2, 3, 4, 5, 10, 15, 17, 20, 21, 22]),
+    (
+        "apply",
+        &[30, 31, 32, 33, 34, 35, 36, 37, 38, 39, 40, 41, 42, 43, 44],
+    ),
+];
+
+#[cfg(feature = "reads")]
+const READ_NUMBERS: &[(&str, &[u8])] = &[
+    ("last_sequence", &[0, 1, 2, 3, 15, 18]),
+    ("best", &[0, 1, 2, 3, 15, 18]),
+    ("audit", &[0, 1, 2, 3, 15, 18]),
+    ("level_queue", &[0, 1, 2, 3, 7, 15, 18]),
+    ("priority_profile", &[0, 1, 2, 3, 7, 15, 18]),
+    ("l2", &[0, 1, 2, 3, 7, 15, 18]),
+    ("stale_l2", &[0, 1, 2, 3, 7]),
+    ("queue_estimate", &[0, 1, 2, 3, 7, 15, 18]),
+    ("queue_estimate_own", &[0, 1, 2, 3, 15, 18, 51, 52]),
+    ("volume_ahead", &[0, 1, 2, 3, 8, 15, 18, 50, 51, 52]),
+];
+
+/// Every number was answered, and most messages were applied.
 fn reaches_every_number(tally: &Tally) {
-    for number in [0, 1, 2, 3, 4, 5, 6, 10, 11, 12, 13, 14] {
-        assert!(
-            tally.bootstrap.contains_key(&number),
-            "bootstrap says {number}"
-        );
+    all_met(tally, NUMBERS);
+    let applied = tally.times("apply", 0);
+    assert!(applied > tally.calls / 4, "messages are applied");
+}
+
+fn all_met(tally: &Tally, numbers: &[(&str, &[u8])]) {
+    for &(name, numbers) in numbers {
+        for &number in numbers {
+            assert!(tally.times(name, number) > 0, "{name} says {number}");
+        }
     }
-    let reasons = (20..=22).chain(30..=44);
-    for number in [0, 1, 2, 3, 4, 5, 10, 15, 17].into_iter().chain(reasons) {
-        assert!(tally.apply.contains_key(&number), "apply says {number}");
-    }
-    assert!(tally.apply[&0] > tally.calls / 4, "messages are applied");
 }
 
 /// A book was filled to the ceiling, and one by messages alone but for the few orders of its snapshot.
@@ -48,6 +72,12 @@ fn short_streams_agree() {
     }
     println!("{streams} streams from seed {seed} on: {all:?}");
     reaches_every_number(&all);
+    #[cfg(feature = "reads")]
+    {
+        all_met(&all, READ_NUMBERS);
+        let missing = all.cases.missing();
+        assert!(missing.is_empty(), "never met: {missing:?}");
+    }
 }
 
 #[test]

@@ -324,9 +324,9 @@ impl Random {
         }
     }
 
-    /// One entry of a forged ahead-list: right, of another time, or of no resting order.
-    fn forged_entry(&mut self, book: &Mirror) -> [u64; 3] {
-        let Some(order) = self.order(book) else {
+    /// The entry of an order in a forged ahead-list: right, of another time, or of no resting order.
+    fn forged_entry(&mut self, order: Option<Order>) -> [u64; 3] {
+        let Some(order) = order else {
             return [self.word(), self.word(), self.word()];
         };
         let (mut id, mut entered_at) = (order.id, order.entered_at);
@@ -339,49 +339,85 @@ impl Random {
         [(id >> 64) as u64, id as u64, entered_at]
     }
 
-    pub fn forged_estimate(&mut self, book: &Mirror) -> (Estimate, Vec<u64>) {
-        let order = self.order(book);
-        let mut list = Vec::new();
-        let anchor = if self.chance(60) {
-            let entries = match self.below(50) {
-                0..=3 => 4_096,
-                4 => 4_097,
-                few => few % 9,
-            };
-            for _ in 0..entries {
-                list.extend(self.forged_entry(book));
-            }
-            if !list.is_empty() && self.chance(15) {
-                list.pop();
-            }
-            Anchor::Hypothetical {
-                orders: match self.below(10) {
-                    0 => entries + 1,
-                    1 => u64::MAX,
-                    2 => entries / 2,
-                    _ => entries,
-                },
-                created_at: self.pick(&[
-                    0,
-                    book.start,
-                    book.last,
-                    book.last.wrapping_sub(1),
-                    u64::MAX,
-                ]),
-            }
-        } else {
-            let [high, low, entered_at] = self.forged_entry(book);
-            Anchor::Own {
-                order_id: u128::from(high) << 64 | u128::from(low),
-                entered_at,
-            }
+    /// A forged ahead-list and the number of orders claimed for it: entries of any level, at times one of them twice, a word too few,
+    /// or more than there may be.
+    fn forged_list(&mut self, book: &Mirror) -> (Vec<u64>, u64) {
+        let entries = match self.below(50) {
+            0..=3 => 4_096,
+            4 | 5 => 4_097,
+            few => few % 9,
         };
+        let mut list = Vec::new();
+        for _ in 0..entries {
+            let order = self.order(book);
+            list.extend(self.forged_entry(order));
+        }
+        if entries > 1 && self.chance(30) {
+            let twin = 3 * self.below(entries) as usize;
+            let over = 3 * self.below(entries) as usize;
+            list.copy_within(twin..twin + 3, over);
+        }
+        if !list.is_empty() && self.chance(15) {
+            list.pop();
+        }
+        let orders = match self.below(10) {
+            0 => entries + 1,
+            1 => u64::MAX,
+            2 => entries / 2,
+            _ => entries,
+        };
+        (list, orders)
+    }
+
+    fn forged_hypothetical(&mut self, book: &Mirror) -> (Estimate, Vec<u64>) {
+        let order = self.order(book);
+        let (list, orders) = self.forged_list(book);
+        let before = book.last.wrapping_sub(1);
         let estimate = Estimate {
             side: order.map_or(Side::Buy, |order| order.side),
             price: order.map_or(5, |order| order.price),
             segment: self.name(book),
-            anchor,
+            anchor: Anchor::Hypothetical {
+                orders,
+                created_at: self.pick(&[0, book.start, book.last, before, u64::MAX]),
+            },
         };
         (estimate, list)
+    }
+
+    /// An own order's estimate: at its level, at another order's, on the other side, or at a price without orders.
+    fn forged_own(&mut self, book: &Mirror) -> Estimate {
+        let observed: Vec<Order> = book.orders.iter().filter(|o| o.observed).copied().collect();
+        let own = match observed.is_empty() || self.chance(30) {
+            true => self.order(book),
+            false => Some(self.pick(&observed)),
+        };
+        let [high, low, entered_at] = self.forged_entry(own);
+        let (mut side, mut price) = own.map_or((Side::Buy, 5), |o| (o.side, o.price));
+        match (self.below(12), self.order(book)) {
+            (0 | 1, Some(other)) => (side, price) = (other.side, other.price),
+            (2, _) => side = super::events::other(side),
+            (3, _) => price += 1,
+            (4, _) => price = 0,
+            (5, _) => price = self.pick(&[-1, -price, i64::MIN]),
+            (6, _) => price = self.pick(&[AMOUNT_LIMIT + 1, i64::MAX]),
+            _ => {}
+        }
+        Estimate {
+            side,
+            price,
+            segment: self.name(book),
+            anchor: Anchor::Own {
+                order_id: u128::from(high) << 64 | u128::from(low),
+                entered_at,
+            },
+        }
+    }
+
+    pub fn forged_estimate(&mut self, book: &Mirror) -> (Estimate, Vec<u64>) {
+        match self.chance(50) {
+            true => self.forged_hypothetical(book),
+            false => (self.forged_own(book), Vec::new()),
+        }
     }
 }

@@ -1,0 +1,334 @@
+//! The reads and estimates that crate `host` exports. A side is a word, 0 buy, else sell; an amount is its two's-complement word.
+//! The answer is 0 or 01's number; 7 also where a slice of a fixed size is shorter than that, and then nothing is touched.
+
+/// The words of a best pair, of an estimate and of a volume ahead; one word counts the entries of a level read.
+pub const BEST_WORDS: usize = 4;
+pub const ESTIMATE_WORDS: usize = 8;
+pub const AHEAD_WORDS: usize = 7;
+/// The answer of `stale_l2` where the book is not invalid.
+pub const NO_STALE: u64 = 256;
+
+/// A level read of a side: state, rows, scratch, side, entries, their count.
+type LevelRead = unsafe extern "C" fn(
+    state: *const u64,
+    state_len: usize,
+    rows: *const u64,
+    rows_len: usize,
+    scratch: *mut u64,
+    scratch_len: usize,
+    side: u64,
+    out: *mut u64,
+    out_len: usize,
+    count: *mut u64,
+    count_len: usize,
+) -> u64;
+
+mod exported {
+    unsafe extern "C" {
+        pub fn pinuglaw_last_sequence(
+            state: *const u64,
+            state_len: usize,
+            rows: *const u64,
+            rows_len: usize,
+            out: *mut u64,
+            out_len: usize,
+        ) -> u64;
+        pub fn pinuglaw_best(
+            state: *const u64,
+            state_len: usize,
+            rows: *const u64,
+            rows_len: usize,
+            out: *mut u64,
+            out_len: usize,
+        ) -> u64;
+        pub fn pinuglaw_audit(
+            state: *const u64,
+            state_len: usize,
+            rows: *const u64,
+            rows_len: usize,
+        ) -> u64;
+        pub fn pinuglaw_level_queue(
+            state: *const u64,
+            state_len: usize,
+            rows: *const u64,
+            rows_len: usize,
+            scratch: *mut u64,
+            scratch_len: usize,
+            side: u64,
+            price: u64,
+            out: *mut u64,
+            out_len: usize,
+            count: *mut u64,
+            count_len: usize,
+        ) -> u64;
+        pub fn pinuglaw_priority_profile(
+            state: *const u64,
+            state_len: usize,
+            rows: *const u64,
+            rows_len: usize,
+            scratch: *mut u64,
+            scratch_len: usize,
+            side: u64,
+            out: *mut u64,
+            out_len: usize,
+            count: *mut u64,
+            count_len: usize,
+        ) -> u64;
+        pub fn pinuglaw_l2(
+            state: *const u64,
+            state_len: usize,
+            rows: *const u64,
+            rows_len: usize,
+            scratch: *mut u64,
+            scratch_len: usize,
+            side: u64,
+            out: *mut u64,
+            out_len: usize,
+            count: *mut u64,
+            count_len: usize,
+        ) -> u64;
+        pub fn pinuglaw_stale_l2(
+            state: *const u64,
+            state_len: usize,
+            rows: *const u64,
+            rows_len: usize,
+            scratch: *mut u64,
+            scratch_len: usize,
+            side: u64,
+            out: *mut u64,
+            out_len: usize,
+            count: *mut u64,
+            count_len: usize,
+        ) -> u64;
+        pub fn pinuglaw_queue_estimate(
+            state: *const u64,
+            state_len: usize,
+            rows: *const u64,
+            rows_len: usize,
+            side: u64,
+            price: u64,
+            ahead: *mut u64,
+            ahead_len: usize,
+            estimate: *mut u64,
+            estimate_len: usize,
+        ) -> u64;
+        pub fn pinuglaw_queue_estimate_own(
+            state: *const u64,
+            state_len: usize,
+            rows: *const u64,
+            rows_len: usize,
+            id_high: u64,
+            id_low: u64,
+            estimate: *mut u64,
+            estimate_len: usize,
+        ) -> u64;
+        pub fn pinuglaw_volume_ahead(
+            state: *const u64,
+            state_len: usize,
+            rows: *const u64,
+            rows_len: usize,
+            estimate: *const u64,
+            estimate_len: usize,
+            ahead: *const u64,
+            ahead_len: usize,
+            out: *mut u64,
+            out_len: usize,
+        ) -> u64;
+    }
+}
+
+/// Writes the sequence.
+pub fn last_sequence(state: &[u64], rows: &[u64], out: &mut [u64]) -> u64 {
+    // SAFETY: the slices are lent whole for the call, the borrows keep them apart, and the function keeps none.
+    unsafe {
+        exported::pinuglaw_last_sequence(
+            state.as_ptr(),
+            state.len(),
+            rows.as_ptr(),
+            rows.len(),
+            out.as_mut_ptr(),
+            out.len(),
+        )
+    }
+}
+
+/// Writes bid present, bid, ask present, ask; an absent price is 0.
+pub fn best(state: &[u64], rows: &[u64], out: &mut [u64]) -> u64 {
+    // SAFETY: as above.
+    unsafe {
+        exported::pinuglaw_best(
+            state.as_ptr(),
+            state.len(),
+            rows.as_ptr(),
+            rows.len(),
+            out.as_mut_ptr(),
+            out.len(),
+        )
+    }
+}
+
+pub fn audit(state: &[u64], rows: &[u64]) -> u64 {
+    // SAFETY: as above.
+    unsafe { exported::pinuglaw_audit(state.as_ptr(), state.len(), rows.as_ptr(), rows.len()) }
+}
+
+/// Writes five words an order.
+pub fn level_queue(
+    state: &[u64],
+    rows: &[u64],
+    scratch: &mut [u64],
+    (side, price): (u64, u64),
+    out: &mut [u64],
+    count: &mut [u64],
+) -> u64 {
+    // SAFETY: as above.
+    unsafe {
+        exported::pinuglaw_level_queue(
+            state.as_ptr(),
+            state.len(),
+            rows.as_ptr(),
+            rows.len(),
+            scratch.as_mut_ptr(),
+            scratch.len(),
+            side,
+            price,
+            out.as_mut_ptr(),
+            out.len(),
+            count.as_mut_ptr(),
+            count.len(),
+        )
+    }
+}
+
+fn level_read(
+    read: LevelRead,
+    state: &[u64],
+    rows: &[u64],
+    scratch: &mut [u64],
+    side: u64,
+    out: &mut [u64],
+    count: &mut [u64],
+) -> u64 {
+    // SAFETY: as above.
+    unsafe {
+        read(
+            state.as_ptr(),
+            state.len(),
+            rows.as_ptr(),
+            rows.len(),
+            scratch.as_mut_ptr(),
+            scratch.len(),
+            side,
+            out.as_mut_ptr(),
+            out.len(),
+            count.as_mut_ptr(),
+            count.len(),
+        )
+    }
+}
+
+/// Writes three words a level.
+pub fn priority_profile(
+    state: &[u64],
+    rows: &[u64],
+    scratch: &mut [u64],
+    side: u64,
+    out: &mut [u64],
+    count: &mut [u64],
+) -> u64 {
+    let read = exported::pinuglaw_priority_profile;
+    level_read(read, state, rows, scratch, side, out, count)
+}
+
+/// Writes two words a level.
+pub fn l2(
+    state: &[u64],
+    rows: &[u64],
+    scratch: &mut [u64],
+    side: u64,
+    out: &mut [u64],
+    count: &mut [u64],
+) -> u64 {
+    let read = exported::pinuglaw_l2;
+    level_read(read, state, rows, scratch, side, out, count)
+}
+
+/// As `l2`, of an invalid book; of any other it answers [`NO_STALE`].
+pub fn stale_l2(
+    state: &[u64],
+    rows: &[u64],
+    scratch: &mut [u64],
+    side: u64,
+    out: &mut [u64],
+    count: &mut [u64],
+) -> u64 {
+    let read = exported::pinuglaw_stale_l2;
+    level_read(read, state, rows, scratch, side, out, count)
+}
+
+/// Writes three words an order ahead, and the estimate.
+pub fn queue_estimate(
+    state: &[u64],
+    rows: &[u64],
+    (side, price): (u64, u64),
+    ahead: &mut [u64],
+    estimate: &mut [u64],
+) -> u64 {
+    // SAFETY: as above.
+    unsafe {
+        exported::pinuglaw_queue_estimate(
+            state.as_ptr(),
+            state.len(),
+            rows.as_ptr(),
+            rows.len(),
+            side,
+            price,
+            ahead.as_mut_ptr(),
+            ahead.len(),
+            estimate.as_mut_ptr(),
+            estimate.len(),
+        )
+    }
+}
+
+/// Writes the estimate of an own order.
+pub fn queue_estimate_own(state: &[u64], rows: &[u64], id: u128, estimate: &mut [u64]) -> u64 {
+    // SAFETY: as above.
+    unsafe {
+        exported::pinuglaw_queue_estimate_own(
+            state.as_ptr(),
+            state.len(),
+            rows.as_ptr(),
+            rows.len(),
+            (id >> 64) as u64,
+            id as u64,
+            estimate.as_mut_ptr(),
+            estimate.len(),
+        )
+    }
+}
+
+/// Writes at_seq, volume, from_snapshot, observed, orders, the first assumption, and 1 if a decrease is assumed to keep its priority.
+pub fn volume_ahead(
+    state: &[u64],
+    rows: &[u64],
+    estimate: &[u64],
+    ahead: &[u64],
+    out: &mut [u64],
+) -> u64 {
+    // SAFETY: as above.
+    unsafe {
+        exported::pinuglaw_volume_ahead(
+            state.as_ptr(),
+            state.len(),
+            rows.as_ptr(),
+            rows.len(),
+            estimate.as_ptr(),
+            estimate.len(),
+            ahead.as_ptr(),
+            ahead.len(),
+            out.as_mut_ptr(),
+            out.len(),
+        )
+    }
+}

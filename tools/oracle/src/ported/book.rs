@@ -1,0 +1,321 @@
+//! A book as a host keeps it: the state in a block of words, the rows, the segment records, and guard words behind each.
+
+use crate::call::{
+    Act, Counts, Field, Invalidation, Lent, Memory, Rules, Segment, SegmentEnd, SizeDecrease,
+    State, Status, digest_segments, digest_words, fresh_rows, fresh_segments,
+};
+use crate::piece::Product;
+use crate::port;
+
+const RECORD: usize = 8;
+#[cfg(feature = "reads")]
+const ROW: usize = 8;
+/// Stand behind each memory, and must stay.
+pub const GUARDS: usize = 4;
+pub const GUARD: u64 = 0xA5A5_5A5A_DEAD_BEEF;
+
+pub struct Book {
+    block: [u64; port::BLOCK_WORDS + GUARDS],
+    rows: Vec<u64>,
+    segments: Vec<u64>,
+    /// The last sequence that the host knows: the block has it only while the book is valid.
+    last_sequence: u64,
+    /// What the last answer showed, kept while nothing can have changed: digests of large memories are slow.
+    last_shown: Option<State>,
+}
+
+/// Places in the block, as crate `host_words` documents them.
+mod at {
+    #[cfg(feature = "reads")]
+    pub const MAX_ORDERS: usize = 3;
+    #[cfg(feature = "reads")]
+    pub const NUMBER: usize = 5;
+    pub const STATUS: usize = 6;
+    pub const LAST: usize = 7;
+    pub const OFFENDING: usize = 8;
+    pub const KIND: usize = 9;
+    pub const FIRST: usize = 10;
+    pub const SECOND: usize = 11;
+    pub const DETAIL: usize = 12;
+    pub const ROWS: usize = 13;
+    pub const SEGMENTS: usize = 14;
+    pub const COUNTS: usize = 15;
+}
+
+fn record_words(segment: &Segment) -> [u64; RECORD] {
+    let end = match segment.end {
+        SegmentEnd::Open => [0; 4],
+        SegmentEnd::Superseded => [1, 0, 0, 0],
+        SegmentEnd::Invalidated(why) => [
+            u64::from(why.reason),
+            why.last_good_seq,
+            why.first_offending_seq,
+            u64::from(why.funds),
+        ],
+    };
+    let [code, good, offending, detail] = end;
+    let (first, last) = (segment.first_us, segment.last_us);
+    [
+        segment.start_seq,
+        segment.last_good_seq,
+        code,
+        good,
+        offending,
+        detail,
+        first,
+        last,
+    ]
+}
+
+fn record_of(words: &[u64]) -> Segment {
+    Segment {
+        start_seq: words[0],
+        last_good_seq: words[1],
+        end: match words[2] {
+            0 => SegmentEnd::Open,
+            1 => SegmentEnd::Superseded,
+            reason => SegmentEnd::Invalidated(Invalidation {
+                last_good_seq: words[3],
+                first_offending_seq: words[4],
+                reason: reason as u8,
+                funds: words[5] == 1,
+            }),
+        },
+        first_us: words[6],
+        last_us: words[7],
+    }
+}
+
+impl Book {
+    pub fn create(act: &Act) -> Option<Book> {
+        let &Act::Create {
+            ref product,
+            rules,
+            number,
+            row_words,
+            segment_records,
+            row_fill,
+            segment_fill,
+        } = act
+        else {
+            return None;
+        };
+        let mut rows = fresh_rows(row_fill, row_words);
+        rows.extend([GUARD; GUARDS]);
+        let records = fresh_segments(segment_fill, segment_records);
+        let mut segments: Vec<u64> = records.iter().flat_map(record_words).collect();
+        segments.extend([GUARD; GUARDS]);
+        Some(Book {
+            block: fresh_block(product, &rules, number),
+            rows,
+            segments,
+            last_sequence: 0,
+            last_shown: None,
+        })
+    }
+
+    fn lent_rows(&self, lent: &Lent) -> usize {
+        (self.rows.len() - GUARDS).min(lent.rows as usize)
+    }
+
+    /// Calls `function` with the block and the lent prefixes, and sees that the guards stand.
+    pub fn lend(
+        &mut self,
+        lent: &Lent,
+        function: impl FnOnce(&mut [u64], &mut [u64], &mut [u64]) -> u64,
+    ) -> u64 {
+        self.last_shown = None;
+        let fixed = self.block[..at::STATUS].to_vec();
+        let rows = self.lent_rows(lent);
+        let records = (self.segments.len() - GUARDS) / RECORD;
+        let segments = RECORD * records.min(lent.segments as usize);
+        let answer = function(
+            &mut self.block[..port::BLOCK_WORDS],
+            &mut self.rows[..rows],
+            &mut self.segments[..segments],
+        );
+        for memory in [&self.block[..], &self.rows, &self.segments] {
+            assert!(
+                memory.ends_with(&[GUARD; GUARDS]),
+                "a guard word was touched"
+            );
+        }
+        assert!(
+            self.block.starts_with(&fixed),
+            "product, rules and number stay"
+        );
+        if self.block[at::STATUS] == 1 {
+            self.last_sequence = self.block[at::LAST];
+        }
+        answer
+    }
+
+    pub fn status(&self) -> Status {
+        match self.block[at::STATUS] {
+            0 => Status::NoSnapshot,
+            1 => Status::Valid,
+            _ => Status::Invalid(Invalidation {
+                last_good_seq: self.block[at::LAST],
+                first_offending_seq: self.block[at::OFFENDING],
+                reason: self.block[at::KIND] as u8,
+                funds: self.block[at::DETAIL] == 1,
+            }),
+        }
+    }
+
+    fn set_status(&mut self, status: Status) {
+        self.block[at::STATUS..at::ROWS].fill(0);
+        match status {
+            Status::NoSnapshot => {}
+            Status::Valid => {
+                self.block[at::STATUS] = 1;
+                self.block[at::LAST] = self.last_sequence;
+            }
+            Status::Invalid(why) => {
+                self.block[at::STATUS] = 2;
+                self.block[at::LAST] = why.last_good_seq;
+                self.block[at::OFFENDING] = why.first_offending_seq;
+                self.block[at::KIND] = u64::from(why.reason);
+                self.block[at::DETAIL] = u64::from(why.funds);
+                if why.reason < 22 {
+                    let gap = u64::from(why.reason == 20);
+                    self.block[at::FIRST] = why.last_good_seq.wrapping_add(gap);
+                    self.block[at::SECOND] = why.first_offending_seq;
+                }
+            }
+        }
+    }
+
+    pub fn damage(&mut self, act: &Act) {
+        self.last_shown = None;
+        match *act {
+            Act::SetRow { index, word } if index < (self.rows.len() - GUARDS) as u64 => {
+                self.rows[index as usize] = word;
+            }
+            Act::SetSegment { index, record } => {
+                let records = (self.segments.len() - GUARDS) / RECORD;
+                if index < records as u64 {
+                    let place = RECORD * index as usize;
+                    self.segments[place..place + RECORD].copy_from_slice(&record_words(&record));
+                }
+            }
+            Act::SetState { field } => self.set(field),
+            _ => {}
+        }
+    }
+
+    fn set(&mut self, field: Field) {
+        match field {
+            Field::Rows(rows) => self.block[at::ROWS] = rows,
+            Field::Segments(segments) => self.block[at::SEGMENTS] = segments,
+            Field::LastSequence(sequence) => {
+                self.last_sequence = sequence;
+                if self.block[at::STATUS] == 1 {
+                    self.block[at::LAST] = sequence;
+                }
+            }
+            Field::Status(status) => self.set_status(status),
+            Field::Count(index, value) => self.block[at::COUNTS + index as usize] = value,
+        }
+    }
+
+    fn records(&self) -> Vec<Segment> {
+        let words = &self.segments[..self.segments.len() - GUARDS];
+        words.chunks_exact(RECORD).map(record_of).collect()
+    }
+
+    /// The state without the levels, which follow from the rows.
+    pub fn shown(&mut self) -> State {
+        let shown = self.last_shown.unwrap_or_else(|| self.show());
+        self.last_shown = Some(shown);
+        shown
+    }
+
+    fn show(&self) -> State {
+        let records = self.records();
+        let mut counts = Counts::default();
+        for index in 0..12 {
+            *counts.slot(index) = self.block[at::COUNTS + index];
+        }
+        let (rows, segments) = (self.block[at::ROWS], self.block[at::SEGMENTS]);
+        let last = segments
+            .checked_sub(1)
+            .and_then(|i| usize::try_from(i).ok());
+        let words = &self.rows[..self.rows.len() - GUARDS];
+        State {
+            rows,
+            segments,
+            last_sequence: self.last_sequence,
+            status: self.status(),
+            counts,
+            last_segment: last.and_then(|i| records.get(i).copied()),
+            levels: None,
+            memory: Some(Memory {
+                rows: digest_words(words),
+                segments: digest_segments(&records),
+            }),
+        }
+    }
+}
+
+#[cfg(feature = "reads")]
+impl Book {
+    /// Calls `function` with the block, its guards included, and the lent rows. It may only read: the whole memory is compared.
+    pub fn read(&self, lent: &Lent, function: impl FnOnce(&[u64], &[u64]) -> u64) -> u64 {
+        let memories = [&self.block[..], &self.rows, &self.segments];
+        let before = memories.map(Kept::of);
+        let answer = function(&self.block, &self.rows[..self.lent_rows(lent)]);
+        for (before, memory) in before.iter().zip(memories) {
+            assert!(before.holds(memory), "a read wrote into the book");
+        }
+        answer
+    }
+
+    pub fn max_orders(&self) -> u64 {
+        self.block[at::MAX_ORDERS]
+    }
+
+    pub fn number(&self) -> u64 {
+        self.block[at::NUMBER]
+    }
+
+    /// Whether as many rows are lent as number 2 asks for.
+    pub fn rows_suffice(&self, lent: &Lent) -> bool {
+        (self.lent_rows(lent) as u64) >= ROW as u64 * self.max_orders()
+    }
+
+    /// The rows in order of arrival.
+    pub fn line(&self) -> impl Iterator<Item = &[u64]> {
+        let words = &self.rows[..self.rows.len() - GUARDS];
+        words.chunks_exact(ROW).take(self.block[at::ROWS] as usize)
+    }
+}
+
+/// Words as they were before a call that may only read them.
+#[cfg(feature = "reads")]
+pub struct Kept(Vec<u64>);
+
+#[cfg(feature = "reads")]
+impl Kept {
+    pub fn of(words: &[u64]) -> Kept {
+        Kept(std::hint::black_box(words.to_vec()))
+    }
+
+    /// Whether they are as they were. The compiler may take that for granted of a shared borrow, hence the volatile reads.
+    pub fn holds(&self, words: &[u64]) -> bool {
+        // SAFETY: the reference is to a word of the slice.
+        let now = |word: &u64| unsafe { std::ptr::read_volatile(word) };
+        words.iter().map(now).eq(self.0.iter().copied())
+    }
+}
+
+fn fresh_block(product: &Product, rules: &Rules, number: u64) -> [u64; port::BLOCK_WORDS + GUARDS] {
+    let mut block = [0; port::BLOCK_WORDS + GUARDS];
+    block[port::BLOCK_WORDS..].fill(GUARD);
+    let product = u128::from_be_bytes(*product);
+    (block[0], block[1]) = ((product >> 64) as u64, product as u64);
+    block[2] = u64::from(rules.size_decrease == SizeDecrease::PriorityUnknown);
+    (block[3], block[4]) = (rules.max_orders, rules.max_levels);
+    block[5] = number;
+    block
+}

@@ -1,0 +1,355 @@
+//! Which cases the reads of a run met, told from the port's own memory.
+
+use std::collections::{BTreeMap, BTreeSet, HashMap};
+
+use super::book::Book;
+use super::reads::{Held, entry_words};
+use crate::call::{Act, Anchor, Assumption, CEILING, Estimate, Lent, Values};
+use crate::piece::{Id, Side};
+
+/// How often each case of each read was met.
+#[derive(Debug, Default)]
+pub struct Cases(BTreeMap<(&'static str, &'static str), u64>);
+
+impl Cases {
+    pub fn add(&mut self, read: &'static str, case: &'static str) {
+        *self.0.entry((read, case)).or_default() += 1;
+    }
+
+    pub fn merge(&mut self, other: &Cases) {
+        for (&case, &times) in &other.0 {
+            *self.0.entry(case).or_default() += times;
+        }
+    }
+
+    /// Those of [`EXPECTED`] that were not met.
+    pub fn missing(&self) -> Vec<(&'static str, &'static str)> {
+        let all = EXPECTED.iter();
+        all.flat_map(|&(read, cases)| cases.iter().map(move |&case| (read, case)))
+            .filter(|case| !self.0.contains_key(case))
+            .collect()
+    }
+}
+
+/// What every run must meet.
+pub const EXPECTED: &[(&str, &[&str])] = &[
+    ("last_sequence", &["state short", "fixed output short"]),
+    ("best", &["state short", "fixed output short"]),
+    ("audit", &["state short"]),
+    ("level_queue", LEVEL_QUEUE),
+    ("priority_profile", LEVELS),
+    ("l2", LEVELS),
+    ("stale_l2", LEVELS),
+    ("stale_l2", &["a sound book"]),
+    ("queue_estimate", QUEUE_ESTIMATE),
+    ("queue_estimate_own", &["state short", "fixed output short"]),
+    ("volume_ahead", VOLUME_AHEAD),
+];
+
+const LEVELS: &[&str] = &[
+    "state short",
+    "fixed output short",
+    "output one short",
+    "output exact",
+    "no entry, no output",
+    "scratch one short",
+    "scratch exact",
+    "several entries",
+];
+
+const LEVEL_QUEUE: &[&str] = &[
+    "state short",
+    "fixed output short",
+    "output one short",
+    "output exact",
+    "no entry, no output",
+    "scratch one short",
+    "scratch exact",
+    "several entries",
+    "price absent",
+    "price 0",
+    "price negative",
+];
+
+const QUEUE_ESTIMATE: &[&str] = &[
+    "state short",
+    "fixed output short",
+    "output one short",
+    "output exact",
+    "no entry, no output",
+    "several entries",
+    "price absent",
+    "price 0",
+    "price negative",
+];
+
+const VOLUME_AHEAD: &[&str] = &[
+    "state short",
+    "estimate short",
+    "fixed output short",
+    "of another place",
+    "of another number",
+    "list one word short",
+    "list exact",
+    "4,096 orders",
+    "4,097 orders",
+    "2^64-1 orders",
+    "entry counted twice",
+    "entry of another level counted",
+    "entry of another sequence",
+    "entry of no order",
+    "decrease ahead kept",
+    "decrease ahead unknown",
+    "own gone",
+    "own with another entered_at",
+    "own of a snapshot",
+    "own with orders ahead",
+    "own at another price",
+    "own at another side",
+    "own at a price absent",
+    "own at price 0",
+    "own at a negative price",
+    "own decrease kept",
+    "own decrease unknown",
+];
+
+/// A row by name, as far as the cases ask.
+#[derive(Clone, Copy)]
+struct Row {
+    id: Id,
+    price: i64,
+    side: Side,
+    observed: bool,
+    entered_at: u64,
+    decreased: bool,
+}
+
+fn line(book: &Book) -> impl Iterator<Item = Row> {
+    book.line().map(|words| Row {
+        id: u128::from(words[0]) << 64 | u128::from(words[1]),
+        price: words[2] as i64,
+        side: if words[4] % 2 == 0 {
+            Side::Buy
+        } else {
+            Side::Sell
+        },
+        observed: words[4] >= 2,
+        entered_at: words[5],
+        decreased: words[6] == 1,
+    })
+}
+
+fn at_level(book: &Book, side: Side, price: i64) -> u64 {
+    let there = |row: &Row| row.side == side && row.price == price;
+    line(book).filter(there).count() as u64
+}
+
+fn levels(book: &Book, side: Side) -> u64 {
+    let there = line(book).filter(|row| row.side == side);
+    there.map(|row| row.price).collect::<BTreeSet<i64>>().len() as u64
+}
+
+/// One read, as it was asked and answered.
+pub struct Read<'a> {
+    pub book: &'a Book,
+    pub lent: &'a Lent,
+    pub act: &'a Act,
+    pub held: Option<&'a Held>,
+    pub number: u64,
+    pub values: &'a Values,
+}
+
+impl Read<'_> {
+    pub fn note(&self, cases: &mut Cases) {
+        let mut add = |case: &'static str| cases.add(self.act.name(), case);
+        match *self.act {
+            Act::LevelQueue { side, price } => {
+                self.price(at_level(self.book, side, price), price, &mut add);
+                self.lengths(
+                    5,
+                    at_level(self.book, side, price),
+                    self.lent.output,
+                    &mut add,
+                );
+            }
+            Act::QueueEstimate { side, price, .. } => {
+                self.price(at_level(self.book, side, price), price, &mut add);
+                self.lengths(
+                    3,
+                    at_level(self.book, side, price),
+                    self.lent.ahead,
+                    &mut add,
+                );
+            }
+            Act::PriorityProfile { side } | Act::L2 { side } | Act::StaleL2 { side } => {
+                let each = entry_words(self.act).unwrap_or(0) as u64;
+                self.lengths(each, levels(self.book, side), self.lent.output, &mut add);
+            }
+            Act::VolumeAhead { .. } => {
+                if let Some(held) = self.held {
+                    self.volume_ahead(held, &mut add);
+                }
+            }
+            _ => {}
+        }
+    }
+
+    fn price(&self, orders: u64, price: i64, add: &mut impl FnMut(&'static str)) {
+        if self.number != 0 {
+            return;
+        }
+        match price {
+            ..0 => add("price negative"),
+            0 => add("price 0"),
+            _ if orders == 0 => add("price absent"),
+            _ => {}
+        }
+    }
+
+    /// The lent lengths beside what the entries need.
+    fn lengths(&self, each: u64, entries: u64, lent: u64, add: &mut impl FnMut(&'static str)) {
+        if *self.values == Values::NoStale {
+            return add("a sound book");
+        }
+        let need = each * entries;
+        match self.number {
+            0 if need == 0 && lent == 0 => add("no entry, no output"),
+            0 if need > 0 && lent == need => add("output exact"),
+            7 if lent + 1 == need => add("output one short"),
+            _ => {}
+        }
+        if self.number == 0 && entries > 1 {
+            add("several entries");
+        }
+        let orders = self.book.max_orders();
+        if entry_words(self.act).is_some() {
+            match self.number {
+                0 if self.lent.scratch == orders => add("scratch exact"),
+                2 if self.scratch_one_short() => {
+                    add("scratch one short");
+                }
+                _ => {}
+            }
+        }
+    }
+
+    /// And that is all that is short.
+    fn scratch_one_short(&self) -> bool {
+        let short = self.lent.scratch.saturating_add(1) == self.book.max_orders();
+        short && self.book.rows_suffice(self.lent)
+    }
+
+    fn volume_ahead(&self, held: &Held, add: &mut impl FnMut(&'static str)) {
+        let Estimate {
+            segment, anchor, ..
+        } = held.estimate;
+        if self.number == 50 {
+            let other = segment.number != self.book.number();
+            add(if other {
+                "of another number"
+            } else {
+                "of another place"
+            });
+        }
+        match anchor {
+            Anchor::Hypothetical { orders, .. } => self.list_length(held, orders, add),
+            Anchor::Own {
+                order_id,
+                entered_at,
+            } => self.own(&held.estimate, order_id, entered_at, add),
+        }
+        if let (Anchor::Hypothetical { orders, .. }, 0 | 51) = (anchor, self.number) {
+            self.entries(held, orders, add);
+        }
+    }
+
+    fn list_length(&self, held: &Held, orders: u64, add: &mut impl FnMut(&'static str)) {
+        let lent = self.lent.ahead.min(held.list.len() as u64);
+        let need = orders.saturating_mul(3);
+        match self.number {
+            8 if orders <= CEILING && lent + 1 == need => add("list one word short"),
+            8 if orders == CEILING + 1 && lent >= need => add("4,097 orders"),
+            8 if orders == u64::MAX => add("2^64-1 orders"),
+            0 if orders > 0 && lent == need => add("list exact"),
+            _ => {}
+        }
+        if self.number == 0 && orders == CEILING {
+            add("4,096 orders");
+        }
+    }
+
+    fn entries(&self, held: &Held, orders: u64, add: &mut impl FnMut(&'static str)) {
+        if self.number == 51 {
+            return add("decrease ahead unknown");
+        }
+        let rows: HashMap<Id, Row> = line(self.book).map(|row| (row.id, row)).collect();
+        let mut counted = BTreeSet::new();
+        for entry in held.list.chunks_exact(3).take(orders as usize) {
+            let id = u128::from(entry[0]) << 64 | u128::from(entry[1]);
+            let (side, price) = (held.estimate.side, held.estimate.price);
+            match rows.get(&id) {
+                None => add("entry of no order"),
+                Some(row) if row.entered_at != entry[2] => add("entry of another sequence"),
+                Some(row) => {
+                    if !counted.insert(id) {
+                        add("entry counted twice");
+                    }
+                    if (row.side, row.price) != (side, price) {
+                        add("entry of another level counted");
+                    }
+                }
+            }
+        }
+        if self.assumes_kept() {
+            add("decrease ahead kept");
+        }
+    }
+
+    fn assumes_kept(&self) -> bool {
+        let kept = Assumption::SizeDecreaseKeepsPriority;
+        matches!(self.values, Values::Ahead(ahead) if ahead.assumptions.contains(&kept))
+    }
+
+    fn own(
+        &self,
+        estimate: &Estimate,
+        id: Id,
+        entered_at: u64,
+        add: &mut impl FnMut(&'static str),
+    ) {
+        let row = line(self.book).find(|row| row.id == id);
+        match (self.number, row) {
+            (52, None) => add("own gone"),
+            (52, Some(row)) if row.entered_at != entered_at => add("own with another entered_at"),
+            (51, Some(row)) if !row.observed => add("own of a snapshot"),
+            (51, Some(row)) if row.decreased => add("own decrease unknown"),
+            (51, Some(_)) => add("decrease ahead unknown"),
+            (0, Some(row)) => {
+                self.own_level(estimate, &row, add);
+                if row.decreased && self.assumes_kept() {
+                    add("own decrease kept");
+                }
+                if matches!(self.values, Values::Ahead(ahead) if ahead.orders > 0) {
+                    add("own with orders ahead");
+                }
+            }
+            _ => {}
+        }
+    }
+
+    /// Where the estimate puts the own order.
+    fn own_level(&self, estimate: &Estimate, own: &Row, add: &mut impl FnMut(&'static str)) {
+        let (side, price) = (estimate.side, estimate.price);
+        if own.side != side {
+            add("own at another side");
+        } else if own.price != price {
+            add("own at another price");
+        }
+        match price {
+            ..0 => add("own at a negative price"),
+            0 => add("own at price 0"),
+            _ if at_level(self.book, side, price) == 0 => add("own at a price absent"),
+            _ => {}
+        }
+    }
+}
