@@ -1,15 +1,26 @@
 // The library as Rust and C call it: functions on numbers and slices, each answering a number of 01's table, 0 for success (of a message that changed the
 // book, 256). A slice is lent as a pointer and a length; what one call is lent does not overlap.
 use book_valid::rows_broken;
+use host_reads::audit_number;
+use host_reads::load_estimate;
+use host_reads::store_ahead;
+use host_reads::store_best;
+use host_reads::store_estimate;
+use host_reads::store_last;
+use host_reads::store_level;
+use host_reads::store_stale;
 use host_words::apply_number;
 use host_words::bits;
 use host_words::event_words;
 use host_words::kind_word;
 use host_words::load_book;
 use host_words::load_message;
+use host_words::load_side;
 use host_words::put;
 use host_words::sets_status;
+use host_words::signed;
 use host_words::store_book;
+use message::OrderId;
 use piece::ReadMessage;
 use piece::ReadSnapshot;
 use piece::read_message;
@@ -19,7 +30,9 @@ ghost use mathlib.Core.Path.{_≡_};
 ghost use Rattle.piece.specs.Piece.{readMessage, readSnapshot, orderAt};
 ghost use Rattle.book.specs.Broken.{wordsBroken};
 ghost use Rattle.host.specs.Reads.{messageNumber, messageOut, snapshotNumber, snapshotOut, orderNumber, orderOut};
+ghost use Rattle.host_reads.specs.Answers.{answered};
 ghost use Rattle.host.specs.Calls.{called, applyCall, bootstrapCall};
+ghost use Rattle.host.specs.Views.{lastCall, bestCall, auditCall, levelCalled, queueCall, profileCall, l2Call, staleCall, estimateCalled, estimateCall, ownCall, aheadCall};
 
 // Reads a message piece into 21 words: kind, product (two), sequence, time, then the event's fields.
 #[no_mangle]
@@ -153,4 +166,203 @@ pub extern "C" fn pinuglaw_bootstrap(
     let number = answer.number();
     store_book(state, book, number == 0);
     number
+}
+
+// ---- reads. Each answers 0 or 01's number, and 7, writing nothing, where a part is shorter than its fixed size: 27 words of state, 8 of an estimate, 7 of a
+// volume ahead, 1 for a count or a sequence, 4 for the best prices.
+
+// The last sequence applied, into one word.
+#[no_mangle]
+pub extern "C" fn pinuglaw_last_sequence(state: &[u64], rows: &[u64], out: &mut [u64]) -> u64
+    ensures { λ r. ⌜ answered r (now (out .exit)) ≡ lastCall (now (state .entry)) (now (rows .entry)) (now (out .entry)) ⌝ }
+{
+    if (state.len() < 27) | (out.len() < 1) {
+        return 7;
+    }
+    let answer = reconstructor_view::last_sequence(load_book(state), rows);
+    store_last(out, answer)
+}
+
+// The best bid and ask, into four words: whether there is one, and its price, of each.
+#[no_mangle]
+pub extern "C" fn pinuglaw_best(state: &[u64], rows: &[u64], out: &mut [u64]) -> u64
+    ensures { λ r. ⌜ answered r (now (out .exit)) ≡ bestCall (now (state .entry)) (now (rows .entry)) (now (out .entry)) ⌝ }
+{
+    if (state.len() < 27) | (out.len() < 4) {
+        return 7;
+    }
+    let answer = reconstructor_view::best(load_book(state), rows);
+    store_best(out, answer)
+}
+
+// The audit of a valid book.
+#[no_mangle]
+pub extern "C" fn pinuglaw_audit(state: &[u64], rows: &[u64]) -> u64
+    ensures { λ r. ⌜ r ≡ auditCall (now (state .entry)) (now (rows .entry)) ⌝ }
+{
+    if state.len() < 27 {
+        return 7;
+    }
+    audit_number(reconstructor_view::audit(load_book(state), rows))
+}
+
+// The orders at a side (0 buy, else sell) and price (an amount's bits), five words each, and their number.
+#[no_mangle]
+pub extern "C" fn pinuglaw_level_queue(
+    state: &[u64],
+    rows: &[u64],
+    scratch: &mut [u64],
+    side: u64,
+    price: u64,
+    out: &mut [u64],
+    count: &mut [u64],
+) -> u64
+    ensures { λ r. ⌜ levelCalled r (now (scratch .exit)) (now (out .exit)) (now (count .exit)) ≡ queueCall (now (state .entry)) (now (rows .entry)) (now (scratch .entry)) side price (now (out .entry)) (now (count .entry)) ⌝ }
+{
+    if (state.len() < 27) | (count.len() < 1) {
+        return 7;
+    }
+    let answer = reconstructor_reads::level_queue(
+        load_book(state),
+        rows,
+        scratch,
+        load_side(side),
+        signed(price),
+        out,
+    );
+    store_level(count, answer)
+}
+
+// The levels of a side, three words each, and their number.
+#[no_mangle]
+pub extern "C" fn pinuglaw_priority_profile(
+    state: &[u64],
+    rows: &[u64],
+    scratch: &mut [u64],
+    side: u64,
+    out: &mut [u64],
+    count: &mut [u64],
+) -> u64
+    ensures { λ r. ⌜ levelCalled r (now (scratch .exit)) (now (out .exit)) (now (count .exit)) ≡ profileCall (now (state .entry)) (now (rows .entry)) (now (scratch .entry)) side (now (out .entry)) (now (count .entry)) ⌝ }
+{
+    if (state.len() < 27) | (count.len() < 1) {
+        return 7;
+    }
+    let answer = reconstructor_reads::priority_profile(
+        load_book(state),
+        rows,
+        scratch,
+        load_side(side),
+        out,
+    );
+    store_level(count, answer)
+}
+
+// The levels of a side, two words each, and their number.
+#[no_mangle]
+pub extern "C" fn pinuglaw_l2(
+    state: &[u64],
+    rows: &[u64],
+    scratch: &mut [u64],
+    side: u64,
+    out: &mut [u64],
+    count: &mut [u64],
+) -> u64
+    ensures { λ r. ⌜ levelCalled r (now (scratch .exit)) (now (out .exit)) (now (count .exit)) ≡ l2Call (now (state .entry)) (now (rows .entry)) (now (scratch .entry)) side (now (out .entry)) (now (count .entry)) ⌝ }
+{
+    if (state.len() < 27) | (count.len() < 1) {
+        return 7;
+    }
+    let answer = reconstructor_reads::l2(load_book(state), rows, scratch, load_side(side), out);
+    store_level(count, answer)
+}
+
+// The same of a book that is invalid; 256 of one that is not.
+#[no_mangle]
+pub extern "C" fn pinuglaw_stale_l2(
+    state: &[u64],
+    rows: &[u64],
+    scratch: &mut [u64],
+    side: u64,
+    out: &mut [u64],
+    count: &mut [u64],
+) -> u64
+    ensures { λ r. ⌜ levelCalled r (now (scratch .exit)) (now (out .exit)) (now (count .exit)) ≡ staleCall (now (state .entry)) (now (rows .entry)) (now (scratch .entry)) side (now (out .entry)) (now (count .entry)) ⌝ }
+{
+    if (state.len() < 27) | (count.len() < 1) {
+        return 7;
+    }
+    let answer = reconstructor_reads::stale_l2(
+        load_book(state),
+        rows,
+        scratch,
+        load_side(side),
+        out,
+    );
+    store_stale(count, answer)
+}
+
+// An estimate for an order created now at a side and price, into eight words, and the orders ahead of it, three words each.
+#[no_mangle]
+pub extern "C" fn pinuglaw_queue_estimate(
+    state: &[u64],
+    rows: &[u64],
+    side: u64,
+    price: u64,
+    ahead: &mut [u64],
+    estimate: &mut [u64],
+) -> u64
+    ensures { λ r. ⌜ estimateCalled r (now (ahead .exit)) (now (estimate .exit)) ≡ estimateCall (now (state .entry)) (now (rows .entry)) side price (now (ahead .entry)) (now (estimate .entry)) ⌝ }
+{
+    if (state.len() < 27) | (estimate.len() < 8) {
+        return 7;
+    }
+    let answer = queue::queue_estimate(
+        load_book(state),
+        rows,
+        load_side(side),
+        signed(price),
+        ahead,
+    );
+    store_estimate(estimate, answer)
+}
+
+// An estimate for our own order, into eight words.
+#[no_mangle]
+pub extern "C" fn pinuglaw_queue_estimate_own(
+    state: &[u64],
+    rows: &[u64],
+    id_high: u64,
+    id_low: u64,
+    estimate: &mut [u64],
+) -> u64
+    ensures { λ r. ⌜ answered r (now (estimate .exit)) ≡ ownCall (now (state .entry)) (now (rows .entry)) «id_high» «id_low» (now (estimate .entry)) ⌝ }
+{
+    if (state.len() < 27) | (estimate.len() < 8) {
+        return 7;
+    }
+    let id = OrderId {
+        high: id_high,
+        low: id_low,
+    };
+    let answer = queue::queue_estimate_own(load_book(state), rows, id);
+    store_estimate(estimate, answer)
+}
+
+// The volume ahead of an estimate, into seven words.
+#[no_mangle]
+pub extern "C" fn pinuglaw_volume_ahead(
+    state: &[u64],
+    rows: &[u64],
+    estimate: &[u64],
+    ahead: &[u64],
+    out: &mut [u64],
+) -> u64
+    ensures { λ r. ⌜ answered r (now (out .exit)) ≡ aheadCall (now (state .entry)) (now (rows .entry)) (now (estimate .entry)) (now (ahead .entry)) (now (out .entry)) ⌝ }
+{
+    if (state.len() < 27) | ((estimate.len() < 8) | (out.len() < 7)) {
+        return 7;
+    }
+    let answer = queue::volume_ahead(load_book(state), rows, load_estimate(estimate), ahead);
+    store_ahead(out, answer)
 }

@@ -60,7 +60,7 @@ fn is_present(amount: OptionalAmount) -> u64
     }
 }
 
-fn side_word(side: L3Side) -> u64
+pub fn side_word(side: L3Side) -> u64
     ensures { λ r. ⌜ r ≡ sideByte side ⌝ }
 {
     match side {
@@ -523,7 +523,7 @@ pub fn store_book(words: &mut [u64], book: BookReconstructor, sets: bool)
 // ---- a message from its words
 
 // The word's bits as two's complement.
-fn signed(word: u64) -> i64
+pub fn signed(word: u64) -> i64
     ensures { λ r. ⌜ r ≡ toZ w64 word ⌝ }
 {
     if word < 9223372036854775808 {
@@ -542,7 +542,7 @@ fn load_optional(present: u64, word: u64) -> OptionalAmount
     }
 }
 
-fn load_side(word: u64) -> L3Side
+pub fn load_side(word: u64) -> L3Side
     ensures { λ r. ⌜ r ≡ sideOf word ⌝ }
 {
     match word {
