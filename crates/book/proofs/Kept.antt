@@ -7,7 +7,7 @@ use mathlib.Core.List.{List, [], _∷_, _++_, map}
 use native.Mathlib.Nat.{zero-add}
 use native.Mathlib.Omega.{arith}
 use lib.Dec.{eqb, ltb}
-use lib.ListN.{length, getD, take, drop, set, length-append, length-set}
+use lib.ListN.{length, getD, take, drop, set, length-append, length-set, length-map}
 use lib.Seq.{split-at, set-split}
 use borrow.Author.Tests.{eqb-true, eqb-false, ne-eqb, ltb-false, le-ltb}
 use Rattle.laws.proofs.Bools.{or-no, or-both, or-true, or-assoc}
@@ -303,14 +303,10 @@ snapshot-sound t (e ∷ l) h =
     }))
     (snapshot-sound t l (a .1))
 
-length-map : (t : ℕ) (l : List Entry) → length (map (snapshotRow t) l) ≡ length l
-length-map t [] = refl
-length-map t (e ∷ l) = ap suc (length-map t l)
-
 pub snapshot-kept : (mo ml t : ℕ) (l : List Entry) → SnapshotFits mo ml l → WellFormed mo ml (map (snapshotRow t) l)
 snapshot-kept mo ml t l f =
     record {
-      few = omega (arith, length-map t l, f .few);
+      few = omega (arith, length-map l (snapshotRow t), f .few);
       sound = snapshot-sound t l (f .sound);
       single = ap idTwice (line-snapshot t l) ∙ f .single;
       flat = omega (arith, ap levels (line-snapshot t l), f .flat);

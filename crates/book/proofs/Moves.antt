@@ -135,7 +135,7 @@ ahead-is Sell p q = go (ltb p q) refl
     go true e = omega (arith, ltb-true p q e)
     go false e = omega (arith, ltb-false p q e)
 
-ahead-two : (s : L3Side) (p q : ℕ) → ahead-of s p q ≡ ahead-of s q p
+pub ahead-two : (s : L3Side) (p q : ℕ) → ahead-of s p q ≡ ahead-of s q p
 ahead-two Buy p q = omega arith
 ahead-two Sell p q = omega arith
 

@@ -26,7 +26,8 @@ use Rattle.message.specs.declared.L3Message.{L3Message}
 use Rattle.message.specs.declared.SnapshotOrder.{SnapshotOrder}
 use Rattle.piece.specs.declared.ReadEvent.the-variants.{Event}
 use Rattle.piece.proofs.Numbers.{little-part, little-part-bound, big-part, big-part-bound}
-use Rattle.piece.proofs.Shapes.{both, shaped, by-kind}
+use Rattle.laws.proofs.Bools.{and-yes}
+use Rattle.piece.proofs.Shapes.{shaped, by-kind}
 
 -- ---- a field's bytes ahead of the rest
 
@@ -179,7 +180,7 @@ module _ (s : List ℕ) (all : AllBytes s) (e : L3Event) where
   unfolding readReceived
   received-stands k q =
       let h = shaped _ _ e q in
-      let t = both _ _ (h .0) in
+      let t = and-yes _ _ (h .0) in
       let n = eqb-true (length s) 50 (t .0) in
       subst (Stands s) (h .1)
       (record {
@@ -195,7 +196,7 @@ module _ (s : List ℕ) (all : AllBytes s) (e : L3Event) where
   unfolding readOpen
   open-stands k q =
       let h = shaped _ _ e q in
-      let t = both _ _ (h .0) in
+      let t = and-yes _ _ (h .0) in
       let n = eqb-true (length s) 66 (t .0) in
       subst (Stands s) (h .1)
       (record {
@@ -212,12 +213,12 @@ module _ (s : List ℕ) (all : AllBytes s) (e : L3Event) where
   unfolding readDone doneShaped
   done-stands k q =
       let h = shaped _ _ e q in
-      let t = both _ _ (h .0) in
+      let t = and-yes _ _ (h .0) in
       let n = eqb-true (length s) 68 (t .0) in
-      let remaining = both _ _ (t .1) in
-      let price = both _ _ (remaining .0) in
-      let few = both _ _ (price .0) in
-      let bytes = both _ _ (few .0) in
+      let remaining = and-yes _ _ (t .1) in
+      let price = and-yes _ _ (remaining .0) in
+      let few = and-yes _ _ (price .0) in
+      let bytes = and-yes _ _ (few .0) in
       let b = getD s 59 0 in
       let bits : presence (optionalAt s (hasBit b 1) 50 ∷ optionalAt s (hasBit b 2) 60 ∷ []) ≡ b =
       rw (bit-value s b 1 50, bit-value s b 2 60) (omega (arith, leb-true b 3 (few .1))) in
@@ -238,7 +239,7 @@ module _ (s : List ℕ) (all : AllBytes s) (e : L3Event) where
   unfolding readMatch
   match-stands k q =
       let h = shaped _ _ e q in
-      let t = both _ _ (h .0) in
+      let t = and-yes _ _ (h .0) in
       let n = eqb-true (length s) 82 (t .0) in
       subst (Stands s) (h .1)
       (record {
@@ -256,16 +257,16 @@ module _ (s : List ℕ) (all : AllBytes s) (e : L3Event) where
   unfolding readChange changeShaped changeFieldsAt changeOf
   change-stands k q =
       let h = shaped _ _ e q in
-      let t = both _ _ (h .0) in
+      let t = and-yes _ _ (h .0) in
       let n = eqb-true (length s) 100 (t .0) in
-      let newFunds = both _ _ (t .1) in
-      let newPrice = both _ _ (newFunds .0) in
-      let oldPrice = both _ _ (newPrice .0) in
-      let newSize = both _ _ (oldPrice .0) in
-      let oldSize = both _ _ (newSize .0) in
-      let price = both _ _ (oldSize .0) in
-      let few = both _ _ (price .0) in
-      let bytes = both _ _ (few .0) in
+      let newFunds = and-yes _ _ (t .1) in
+      let newPrice = and-yes _ _ (newFunds .0) in
+      let oldPrice = and-yes _ _ (newPrice .0) in
+      let newSize = and-yes _ _ (oldPrice .0) in
+      let oldSize = and-yes _ _ (newSize .0) in
+      let price = and-yes _ _ (oldSize .0) in
+      let few = and-yes _ _ (price .0) in
+      let bytes = and-yes _ _ (few .0) in
       let b = getD s 51 0 in
       let bits :
       presence
@@ -411,8 +412,8 @@ module _ (s : List ℕ) (all : AllBytes s) where
   tests : snapshotShaped s ≡ true → Tests
   unfolding snapshotShaped
   tests h =
-      let t = both _ _ h in
-      let u = both _ _ (t .0) in
+      let t = and-yes _ _ h in
+      let u = and-yes _ _ (t .0) in
       record { size = eqb-true _ _ (u .0); kind = eqb-true _ _ (u .1); time = eqb-true _ _ (t .1) }
 
   pub snapshot-bytes : snapshotShaped s ≡ true → snapshotBytes snapshotAt ≡ s

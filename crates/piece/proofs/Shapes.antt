@@ -13,15 +13,7 @@ use Rattle.message.specs.declared.SnapshotOrder.{SnapshotOrder}
 use Rattle.piece.specs.declared.ReadEvent.{ReadEvent}
 use Rattle.piece.specs.declared.ReadEvent.the-variants.{Event, NoEvent}
 use Rattle.piece.specs.Piece.{eventIf, readReceived, readOpen, readDone, readMatch, readChange, readUnsupported, readEvent, bidsAt, asksAt, snapshotShaped, orderAt, ordersFrom}
-
--- ---- tests taken apart
-
-pub off : {X : Type 0} → _≡_ {A = Bool} false true → X
-off e = let z : _≡_ {A = ℕ} 0 1 = cc in absurd (omega arith)
-
-pub both : (a b : Bool) → (a && b) ≡ true → (a ≡ true) × (b ≡ true)
-both true b h = (refl, h)
-both false b h = off h
+use Rattle.laws.proofs.Bools.{and-yes}
 
 -- ---- a piece with an event has its shape, and is long enough for a message's header
 
@@ -58,7 +50,7 @@ module _ (s : List ℕ) (e : L3Event) {P : Type 0} where
 
 module _ (s : List ℕ) (e : L3Event) where
   long : (n : ℕ) (b : Bool) (x : L3Event) → 33 ≤ n → eventIf (eqb (length s) n && b) x ≡ Event e → 33 ≤ length s
-  long n b x h q = omega (arith, eqb-true (length s) n (both _ b (shaped _ x e q .0) .0))
+  long n b x h q = omega (arith, eqb-true (length s) n (and-yes _ b (shaped _ x e q .0) .0))
 
   pub event-long : readEvent s ≡ Event e → 33 ≤ length s
   unfolding readReceived readOpen readDone readMatch readChange readUnsupported

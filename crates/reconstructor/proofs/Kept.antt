@@ -1,7 +1,7 @@
 -- What a call keeps: a usable state stays usable, so that number 3 never arises later; a refusal leaves all but the counts that 01 names; 16 leaves
 -- the rows.
 -- Assumes nothing.
-use Prim.Native.Nat.{ℕ, _+_, _*_, _-_, _≤_, _<_}
+use Prim.Native.Nat.{ℕ, _*_, _-_, _≤_, _<_}
 use mathlib.Core.Path.{_≡_, refl, sym, subst, _∙_, ap}
 use mathlib.Core.Bool.{false, true}
 use mathlib.Core.List.{List}
@@ -19,22 +19,20 @@ use Rattle.book.specs.Broken.{WellFormed}
 use Rattle.reconstructor_state.specs.declared.Invalidation.{Invalidation}
 use Rattle.reconstructor_state.specs.declared.InvalidationKind.{InvalidationKind}
 use Rattle.reconstructor_state.specs.declared.MessageCounts.{MessageCounts}
-use Rattle.reconstructor_state.specs.declared.Segment.{Segment}
 use Rattle.reconstructor_state.specs.declared.VenueRules.{VenueRules}
 use Rattle.reconstructor_state.specs.declared.Status.{Status}
 use Rattle.reconstructor_state.specs.declared.ApplyAnswer.{ApplyAnswer}
 use Rattle.reconstructor_state.specs.declared.BookReconstructor.{BookReconstructor}
 use Rattle.reconstructor_state.specs.Numbers.{answerNumber}
-use Rattle.reconstructor_state.specs.Segments.{segmentWords, setSegment}
 use Rattle.reconstructor_state.specs.State.{with, withCounts, lastOf}
 use Rattle.reconstructor_checks.specs.Own.{broken, Usable}
 use Rattle.reconstructor_plan.specs.Rules.{eventRefusal, eventDeed, effect, lineBy, markOf}
 use Rattle.reconstructor.specs.declared.Reply.{Reply}
 use Rattle.reconstructor.specs.Refusals.{admitRefusal, turnRefusal}
 use Rattle.reconstructor.specs.Applied.{refusedBook, refusedReply, invalidatedReply, acceptedReply, accepted, recorded, settled, gated, bookGate, applied, Parts, leaves, turned}
-use Rattle.laws.proofs.Splice.{splice-length}
 use Rattle.book.proofs.Rows.{length-rows}
 use Rattle.book.proofs.Stored.{rows-stored, length-stored}
+use Rattle.reconstructor_state.proofs.Segments.{length-set-segment}
 use Rattle.reconstructor_state.proofs.Checks.{passed, first-passed}
 use Rattle.reconstructor_checks.proofs.Own.{sound, kept, rows-lent, segments-lent, has-segment}
 use Rattle.reconstructor_plan.proofs.Kept.{event-formed, line-by}
@@ -92,13 +90,9 @@ stale-rows top b ws sg m i h = gated-stale b ws sg m (bookGate top b ws sg m) i 
 
 -- ---- a usable state stays usable
 
-set-length : (ws : List ℕ) (i : ℕ) (g : Segment) → 8 * i + 8 ≤ length ws → length (setSegment ws i g) ≡ length ws
-unfolding setSegment
-set-length ws i g fits = splice-length ws (segmentWords g) (8 * i) (8 * i + 8) refl fits
-
 recorded-length : (sg : List ℕ) (n : ℕ) (m : L3Message) (a : ApplyAnswer) → 0 < n → 8 * n ≤ length sg → length (recorded sg n m a) ≡ length sg
 unfolding recorded
-recorded-length sg n m a p h = set-length sg (n - 1) _ (omega arith)
+recorded-length sg n m a p h = length-set-segment sg (n - 1) _ (omega arith)
 
 counts-sound : (b : BookReconstructor) (ws : List ℕ) (k : MessageCounts) → broken b ws ≡ false → broken (withCounts b k) ws ≡ false
 unfolding broken

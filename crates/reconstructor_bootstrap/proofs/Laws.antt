@@ -6,10 +6,9 @@ use mathlib.Core.Bool.{Bool, true, false, cond, _&&_}
 use mathlib.Core.List.{List, [], map}
 use mathlib.Core.Option.{Option, none, some}
 use native.Mathlib.Omega.{arith}
-use borrow.Author.Tests.{leb-true, eqb-false, ne-eqb, le-ltb}
+use borrow.Author.Tests.{eqb-false, ne-eqb, le-ltb}
 use lib.Dec.{eqb, lit<}
-use lib.IntN.{ℤ, pos, negsuc}
-use lib.ListN.{length}
+use lib.ListN.{length, length-map}
 use Rattle.message.specs.declared.L3Snapshot.{L3Snapshot}
 use Rattle.piece.specs.declared.PieceError.{PieceError}
 use Rattle.piece.specs.declared.ReadSnapshot.{ReadSnapshot}
@@ -23,12 +22,11 @@ use Rattle.book.specs.Rows.{rowsOf, stored, snapshotRow}
 use Rattle.book.specs.Broken.{WellFormed, someOutOfRange, SnapshotFits}
 use Rattle.reconstructor_state.specs.declared.Status.{Status}
 use Rattle.reconstructor_state.specs.declared.Status.the-variants.{Empty, Valid, Invalidated}
-use Rattle.reconstructor_state.specs.declared.Segment.{Segment}
 use Rattle.reconstructor_state.specs.declared.StateError.{StateError}
 use Rattle.reconstructor_state.specs.declared.StateError.the-variants.{LimitAboveCeiling, LentTooShort, MalformedBook}
 use Rattle.reconstructor_state.specs.Checks.{check, first}
 use Rattle.reconstructor_state.specs.declared.BookReconstructor.{BookReconstructor}
-use Rattle.reconstructor_state.specs.Segments.{segmentAt, setSegment, segmentWords, superseded, started}
+use Rattle.reconstructor_state.specs.Segments.{segmentAt, superseded, started}
 use Rattle.reconstructor_state.specs.State.{viewOf, lengthsOf, withCounts}
 use Rattle.reconstructor_checks.specs.Own.{broken, bookRefusal, Usable}
 use Rattle.reconstructor_bootstrap.specs.declared.SnapshotError.{SnapshotError}
@@ -40,22 +38,18 @@ use Rattle.reconstructor_bootstrap.specs.Snapshot.{pieceAnswer, snapshot
 use Rattle.reconstructor_bootstrap.specs.Bootstrap.{Parts, refusedBook, refused, bootedBook, closed, segmentAdded, accepted, taken, bootstrapped}
 use Rattle.reconstructor_bootstrap.specs.Places.{entryAt, entriesFrom}
 use Rattle.laws.proofs.Bools.{or-no, or-both, and-yes}
-use Rattle.laws.proofs.Splice.{splice-length}
 use Rattle.book.proofs.Kept.{snapshot-kept}
 use Rattle.book.proofs.Stored.{rows-stored, length-stored}
+use Rattle.message.proofs.Amounts.{in-range-most}
+use Rattle.reconstructor_state.proofs.Segments.{length-set-segment}
 use Rattle.reconstructor_state.proofs.Checks.{passed, first-passed}
 use Rattle.reconstructor_checks.proofs.Own.{usable, sound, rows-lent, segments-lent, kept, has-segment}
-use Rattle.reconstructor_bootstrap.proofs.Places.{rows-length, line-places}
+use Rattle.reconstructor_bootstrap.proofs.Places.{line-places}
 use Rattle.reconstructor_bootstrap.proofs.Vetted.{someNotPositive, has-passed}
 use Rattle.reconstructor_bootstrap.proofs.Whole.{settled-some, read, few-orders, length-snapshot}
 use Rattle.piece.specs.declared.PieceError.the-variants as pieces
 
 -- ---- number 5 and number 12: amounts of an accepted snapshot
-
-in-range-most : (a : ℤ) → inRange a ≡ true → natOf a ≤ amountLimit
-unfolding inRange
-in-range-most (pos n) h = leb-true n amountLimit h
-in-range-most (negsuc n) h = omega arith
 
 ranged : (bids : ℕ) (bytes : List ℕ) (i k : ℕ) → ordersInRange (ordersFrom bytes i k) ≡ true → someNotPositive (entriesFrom bids bytes i k) ≡ false
     → someOutOfRange (entriesFrom bids bytes i k) ≡ false
@@ -143,11 +137,7 @@ is-accepted top b ws sg bytes h = go (readSnapshot bytes) refl (first-passed _ _
           fits = fits bytes s b q (vetted .0);
         }
 
--- writing a record keeps the list's length
-length-set-segment : (sg : List ℕ) (i : ℕ) (g : Segment) → 8 * i + 8 ≤ length sg → length (setSegment sg i g) ≡ length sg
-unfolding setSegment
-length-set-segment sg i g h = splice-length sg (segmentWords g) (8 * i) (8 * i + 8) refl h
-
+-- ending the open segment keeps the list's length
 length-closed : (st : Status) (sg : List ℕ) (n : ℕ) → 8 * n ≤ length sg → ((last : ℕ) → st ≡ Valid last → 0 < n) → length (closed st sg n) ≡ length sg
 unfolding closed
 length-closed Empty sg n h p = refl
@@ -161,7 +151,7 @@ accepted-formed top b ws sg bytes h =
     let a = is-accepted top b ws sg bytes h in
     let l = snapshotLine (a .snapshot) bytes in
     let t = a .snapshot .sequence in
-    let r : rowsOf (stored ws (b .rows) (map (snapshotRow t) l)) (length l) ≡ map (snapshotRow t) l = rw (rows-length t l) at (rows-stored ws (b .rows) (map (snapshotRow t) l)) in
+    let r : rowsOf (stored ws (b .rows) (map (snapshotRow t) l)) (length l) ≡ map (snapshotRow t) l = rw (length-map l (snapshotRow t)) at (rows-stored ws (b .rows) (map (snapshotRow t) l)) in
     rw (a .is, r) (snapshot-kept (b .rules .«max_orders») (b .rules .«max_levels») t l (a .fits))
 
 -- and the state, with what it is lent, passes 1, 2 and 3 at the next call
@@ -172,7 +162,7 @@ accepted-usable top b ws sg bytes h =
     let l : List Entry = snapshotLine (a .snapshot) bytes in
     let t = a .snapshot .sequence in
     let os : List Resting = map (snapshotRow t) l in
-    let n : length os ≡ length l = rows-length t l in
+    let n : length os ≡ length l = length-map l (snapshotRow t) in
     let s = sound b ws (a .before .sound) in
     let m = rows-lent b ws sg (a .before .lent) in
     let r : rowsOf (stored ws (b .rows) os) (length l) ≡ os = rw n at (rows-stored ws (b .rows) os) in

@@ -6,7 +6,7 @@ use mathlib.Core.List.{List, [], _∷_, _++_, map}
 use native.Mathlib.Nat.{add-zero, zero-add, suc-add}
 use native.Mathlib.Omega.{arith}
 use borrow.Author.Tests.{lt-ltb, le-ltb}
-use lib.ListN.{length}
+use lib.ListN.{length, length-map}
 use Rattle.message.specs.declared.L3Side.the-variants.{Buy, Sell}
 use Rattle.message.specs.declared.L3Snapshot.{L3Snapshot}
 use Rattle.piece.specs.Piece.{ordersFrom}
@@ -56,13 +56,9 @@ map-row-append : (t : ℕ) (a b : List Entry) → map (snapshotRow t) (a ++ b) �
 map-row-append t [] b = refl
 map-row-append t (e ∷ a) b = ap (λ (x : List Resting). snapshotRow t e ∷ x) (map-row-append t a b)
 
-pub rows-length : (t : ℕ) (l : List Entry) → length (map (snapshotRow t) l) ≡ length l
-rows-length t [] = refl
-rows-length t (e ∷ l) = ap suc (rows-length t l)
-
 module _ (bids : ℕ) (bytes : List ℕ) (t : ℕ) where
   pub rows-at-next : (i : ℕ) (o : Resting) → o ≡ snapshotRow t (entryAt bids bytes i) → rowsAt bids bytes (i + 1) t ≡ rowsAt bids bytes i t ++ (o ∷ [])
   rows-at-next i o e = ap (map (snapshotRow t)) (entries-next bids bytes i) ∙ map-row-append t (entriesFrom bids bytes 0 i) (entryAt bids bytes i ∷ []) ∙ rw e
 
   pub rows-at-length : (n : ℕ) → length (rowsAt bids bytes n t) ≡ n
-  rows-at-length n = rows-length t (entriesFrom bids bytes 0 n) ∙ entries-length bids bytes 0 n
+  rows-at-length n = length-map (entriesFrom bids bytes 0 n) (snapshotRow t) ∙ entries-length bids bytes 0 n

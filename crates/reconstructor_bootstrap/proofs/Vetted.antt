@@ -25,7 +25,7 @@ use Rattle.reconstructor_bootstrap.specs.Snapshot.{notPositive, noRoom, 
 use Rattle.reconstructor_bootstrap.specs.Bootstrap.{validated}
 use Rattle.laws.proofs.Bools.{or-no, or-both}
 use Rattle.book.proofs.Rows.{rows-next, rows-around, rows-done}
-use Rattle.book.proofs.Moves.{rests-front, twice-move, levels-move, levels-drop}
+use Rattle.book.proofs.Moves.{rests-front, twice-move, twice-join, levels-move, levels-drop}
 use Rattle.book.proofs.Kept.{line-append, sound-row, not-out}
 use Rattle.reconstructor_state.proofs.Checks.{goes-on, passed}
 
@@ -58,10 +58,6 @@ levels-next l e = levels-move l e [] ∙ rw append-nil (go (hasLevel (e .side) (
     go : (b : Bool) → cond b (levels l) (suc (levels l)) ≡ levels l + cond b 0 1
     go true = omega arith
     go false = omega arith
-
--- an id twice
-twice-next : (l : List Entry) (e : Entry) → idTwice (l ++ (e ∷ [])) ≡ (rests (e .id) l || idTwice l)
-twice-next l e = twice-move l e [] ∙ rw append-nil
 
 levels-part : (a b : List Entry) → levels a ≤ levels (a ++ b)
 levels-part a [] = rw append-nil (omega arith)
@@ -172,7 +168,7 @@ has-passed ml before (e ∷ es) last h s f =
     let h₂ = passed _ _ _ (h₁ .1) in
     let h₃ = passed _ _ _ (h₂ .1) in
     let assoc : (before ++ (e ∷ [])) ++ es ≡ before ++ (e ∷ es) = append-assoc before (e ∷ []) es in
-    let k = has-passed ml (before ++ (e ∷ [])) es last (h₃ .1) (twice-next before e ∙ or-both _ _ (h₁ .0) s) (omega (arith, levels-next before e, room (hasLevel (e .side) (e .price) before) (h₃ .0))) in
+    let k = has-passed ml (before ++ (e ∷ [])) es last (h₃ .1) (twice-join before e ∙ or-both _ _ (h₁ .0) s) (omega (arith, levels-next before e, room (hasLevel (e .side) (e .price) before) (h₃ .0))) in
     record {
       end = k .end;
       single = ap idTwice (sym assoc) ∙ k .single;

@@ -6,9 +6,8 @@ use mathlib.Core.Path.{_≡_, refl, sym, ap, _∙_}
 use mathlib.Core.List.{List, [], _∷_, _++_}
 use mathlib.Core.Option.{Option, none, some}
 use native.Mathlib.Omega.{arith}
-use borrow.Author.Tests.{eqb-false, ltb-false, leb-true, leb-false}
+use borrow.Author.Tests.{eqb-false, ltb-false, leb-false}
 use lib.Dec.{leb, ltb, eqb}
-use lib.IntN.{ℤ, pos, negsuc}
 use lib.ListN.{length}
 use Rattle.message.specs.declared.L3Side.{L3Side}
 use Rattle.message.specs.declared.L3Side.the-variants.{Buy, Sell}
@@ -32,6 +31,7 @@ use Rattle.reconstructor_plan.specs.Rules.{Effect, keep, join, cutTo, en
 use Rattle.book.proofs.Stored.{found-at, found-none}
 use Rattle.book.proofs.Kept.{InRange, row-sound, line-append, length-line, line-cut, insert-kept, cut-kept}
 use Rattle.laws.proofs.Bools.{and-yes}
+use Rattle.message.proofs.Amounts.{in-range-most}
 use Rattle.reconstructor_state.proofs.Checks.{passed}
 
 -- ---- a joined row
@@ -107,11 +107,6 @@ cut-formed mo ml ws n d r mark e w q h = go (findRow (rowsOf ws n) d 0) refl
 
 -- ---- an event
 
-in-range : (x : ℤ) → inRange x ≡ true → natOf x ≤ amountLimit
-unfolding inRange
-in-range (pos n) h = leb-true n amountLimit h
-in-range (negsuc n) h = omega arith
-
 module _ (v : VenueRules) (ws : List ℕ) (n seq : ℕ) (w : WellFormed (v .«max_orders») (v .«max_levels») (rowsOf ws n)) where
   abbrev Formed : List Resting → Type 0
   Formed os = WellFormed (v .«max_orders») (v .«max_levels») os
@@ -121,7 +116,7 @@ module _ (v : VenueRules) (ws : List ℕ) (n seq : ℕ) (w : WellFormed (v .«ma
   event-formed (Received d s) g h = w
   event-formed (Open d s p q) g h =
       let k = and-yes (inRange p) (inRange q) g in
-      join-formed v (rowsOf ws n) seq d s (natOf p) (natOf q) w (in-range p (k .0)) (in-range q (k .1)) h
+      join-formed v (rowsOf ws n) seq d s (natOf p) (natOf q) w (in-range-most p (k .0)) (in-range-most q (k .1)) h
   event-formed (Done d s p why r) g h = go (find d (lineOf (rowsOf ws n))) refl
     where
       go : (o : Option Entry) → find d (lineOf (rowsOf ws n)) ≡ o → Formed (rowsBy seq Unmarked (doneEffect d o) (rowsOf ws n))
