@@ -8,7 +8,7 @@ use Rattle.piece.specs.Piece.{sideOf}
 use Rattle.piece.specs.Encode.{sideByte}
 use Rattle.book_levels.specs.Levels.{written}
 use Rattle.queue.specs.declared.Assumption.{Assumption}
-use Rattle.queue.specs.declared.Assumption.the-variants as assume
+use Rattle.queue.specs.declared.Assumption.the-variants as hypotheses
 use Rattle.queue.specs.declared.Anchor.{Anchor}
 use Rattle.queue.specs.declared.Anchor.the-variants.{Hypothetical, Own}
 use Rattle.queue.specs.declared.QueueEstimate.{QueueEstimate}
@@ -64,9 +64,9 @@ estimateAnswered (estimates.Refused e) out = answered (queueErrorNumber e) out
 -- EntrySequenceIsPriority), and 1 where SizeDecreaseKeepsPriority is a second, else 0
 
 abbrev pub assumptionWord : Assumption → ℕ
-assumptionWord assume.BackOfVisibleQueueAtCreation = 0
-assumptionWord assume.EntrySequenceIsPriority = 1
-assumptionWord assume.SizeDecreaseKeepsPriority = 2
+assumptionWord hypotheses.BackOfVisibleQueueAtCreation = 0
+assumptionWord hypotheses.EntrySequenceIsPriority = 1
+assumptionWord hypotheses.SizeDecreaseKeepsPriority = 2
 
 abbrev pub flagWord : Bool → ℕ
 flagWord true = 1

@@ -23,7 +23,7 @@ use Rattle.reconstructor_state.specs.Segments.{sameSegment}
 use Rattle.reconstructor_state.specs.State.{lastOf}
 use Rattle.reconstructor_view.specs.View.{bookView}
 use Rattle.queue.specs.declared.Assumption.{Assumption}
-use Rattle.queue.specs.declared.Assumption.the-variants as assume
+use Rattle.queue.specs.declared.Assumption.the-variants as hypotheses
 use Rattle.queue.specs.declared.Anchor.{Anchor}
 use Rattle.queue.specs.declared.Anchor.the-variants.{Hypothetical, Own}
 use Rattle.queue.specs.declared.QueueEstimate.{QueueEstimate}
@@ -152,14 +152,14 @@ marked (some o) = not (eqb (o .decreased) 0)
 
 -- ahead of a hypothetical order: the orders of the list that still rest
 abbrev pub listAhead : SizeDecrease → ℕ → ℕ → ℕ → List ℕ → List Resting → AheadAnswer
-listAhead rule at k t l os = tallied rule at assume.BackOfVisibleQueueAtCreation false (tallyOf t (stillAhead os (entriesFrom l 0 k)))
+listAhead rule at k t l os = tallied rule at hypotheses.BackOfVisibleQueueAtCreation false (tallyOf t (stillAhead os (entriesFrom l 0 k)))
 
 -- ahead of an own order: 52, also "resting with another entered_at", and 51; then those that rest before it at the estimate's side and price. "The
 -- estimate's sequence" is "an own order's entry"
 abbrev pub ownAhead : SizeDecrease → ℕ → L3Side → ℕ → OrderId → ℕ → List Resting → AheadAnswer
 ownAhead rule at s p d t os =
     aheadOf (ownRefusal rule (enteredAt t (rowWith d os)))
-    (tallied rule at assume.EntrySequenceIsPriority (marked (enteredAt t (rowWith d os))) (tallyOf t (before d (rowsAt s p os))))
+    (tallied rule at hypotheses.EntrySequenceIsPriority (marked (enteredAt t (rowWith d os))) (tallyOf t (before d (rowsAt s p os))))
 
 abbrev pub anchorAhead : BookReconstructor → QueueEstimate → Anchor → List ℕ → List Resting → AheadAnswer
 anchorAhead b q (Hypothetical k t) l os = listAhead (b .rules .«size_decrease») (lastOf (b .status)) k t l os
@@ -171,4 +171,4 @@ volumeAhead top b ws q l =
 
 -- the assumptions as the Rust lists them
 abbrev pub assumptionsOf : QueueAhead → List Assumption
-assumptionsOf a = a .assumption ∷ cond (a .«keeps_priority») (assume.SizeDecreaseKeepsPriority ∷ []) []
+assumptionsOf a = a .assumption ∷ cond (a .«keeps_priority») (hypotheses.SizeDecreaseKeepsPriority ∷ []) []
