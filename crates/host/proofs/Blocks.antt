@@ -14,12 +14,12 @@ use Rattle.piece.specs.declared.ReadSnapshot.{ReadSnapshot}
 use Rattle.piece.specs.declared.ReadSnapshot.the-variants.{Snapshot, Refused}
 use Rattle.piece.specs.Piece.{readSnapshot}
 use Rattle.book.specs.Rows.{ceiling, rowsOf, lineOf}
-use Rattle.reconstructor_state.specs.declared.Applied.{Applied}
-use Rattle.reconstructor_state.specs.declared.Applied.the-variants.{BookChanged, NoBookEffect}
-use Rattle.reconstructor_state.specs.declared.InvalidationKind.{InvalidationKind}
-use Rattle.reconstructor_state.specs.declared.StateError.the-variants.{LimitAboveCeiling, LentTooShort, MalformedBook}
-use Rattle.reconstructor_state.specs.declared.ApplyAnswer.{ApplyAnswer}
-use Rattle.reconstructor_state.specs.declared.ApplyAnswer.the-variants as answers
+use Rattle.reconstructor_answers.specs.declared.Applied.{Applied}
+use Rattle.reconstructor_answers.specs.declared.Applied.the-variants.{BookChanged, NoBookEffect}
+use Rattle.reconstructor_answers.specs.declared.InvalidationKind.{InvalidationKind}
+use Rattle.reconstructor_answers.specs.declared.StateError.the-variants.{LimitAboveCeiling, LentTooShort, MalformedBook}
+use Rattle.reconstructor_answers.specs.declared.ApplyAnswer.{ApplyAnswer}
+use Rattle.reconstructor_answers.specs.declared.ApplyAnswer.the-variants as answers
 use Rattle.reconstructor_state.specs.declared.BookReconstructor.{BookReconstructor}
 use Rattle.reconstructor_state.specs.State.{lastOf}
 use Rattle.reconstructor_plan.specs.Rules.{eventDeed}

@@ -19,7 +19,7 @@ use Rattle.reconstructor_reads.specs.declared.LevelAnswer.{LevelAnswer}
 use Rattle.reconstructor_reads.specs.declared.LevelAnswer.the-variants as levels
 use Rattle.reconstructor_reads.specs.declared.StaleAnswer.{StaleAnswer}
 use Rattle.reconstructor_reads.specs.declared.StaleAnswer.the-variants as stales
-use Rattle.reconstructor_state.specs.Numbers.{stateErrorNumber}
+use Rattle.reconstructor_answers.specs.Numbers.{stateErrorNumber}
 
 -- the number, and the words afterwards
 pub record Answered : Type 0 where

@@ -14,7 +14,7 @@ use queue::QueueEstimate;
 use reconstructor_reads::LevelAnswer;
 use reconstructor_reads::Shown;
 use reconstructor_reads::StaleAnswer;
-use reconstructor_state::SegmentName;
+use reconstructor_segments::SegmentName;
 use reconstructor_view::Audited;
 use reconstructor_view::BestAnswer;
 use reconstructor_view::Viewed;

@@ -9,7 +9,7 @@ use lib.ListN.{length, take, drop, getD, set, length-append, length-drop, take-a
 use lib.Seq.{length-take-le, take-at, take-add, sets, sets-eq, set-getD, getD-set-other}
 use Rattle.reconstructor_state.specs.declared.Status.{Status}
 use Rattle.reconstructor_state.specs.declared.BookReconstructor.{BookReconstructor}
-use Rattle.reconstructor_state.specs.Counts.{saturated, countedAt}
+use Rattle.reconstructor_counts.specs.Counts.{saturated, countedAt}
 use Rattle.reconstructor_state.specs.State.{withCounts}
 use Rattle.host_words.specs.Block.{bookOf, statusAfter, restList, restored}
 use Rattle.laws.proofs.Splice.{splice-rest}

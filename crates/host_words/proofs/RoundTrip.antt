@@ -22,13 +22,13 @@ use Rattle.message.specs.declared.L3Event.the-variants.{Received, Open, Done, M
 use Rattle.message.specs.declared.L3Message.{L3Message}
 use Rattle.piece.specs.Piece.{sideOf, doneReasonOf, changeReasonOf}
 use Rattle.piece.specs.Encode.{kindByte, sideByte, doneReasonByte, changeReasonByte, presentBit, optionalWord, Optional, EventFits, MessageFits}
-use Rattle.reconstructor_state.specs.declared.MalformedReason.the-variants.{Funds, NoSize}
-use Rattle.reconstructor_state.specs.declared.Discrepancy.the-variants.{UnknownMaker, TakerResting, MatchMismatch, MatchExceedsRemaining, DuplicateOpen, MissingMatch, RemainingMismatch, DoneMismatch, MalformedChange, ChangeMismatch, UnsupportedModification, CrossedAfterApply, InvalidValue, CapacityExceeded, UnsupportedInput}
-use Rattle.reconstructor_state.specs.declared.InvalidationKind.{InvalidationKind}
-use Rattle.reconstructor_state.specs.declared.InvalidationKind.the-variants.{Gap, OutOfOrderOrDuplicate, SequenceOverflow, Discrepancy}
+use Rattle.reconstructor_answers.specs.declared.MalformedReason.the-variants.{Funds, NoSize}
+use Rattle.reconstructor_answers.specs.declared.Discrepancy.the-variants.{UnknownMaker, TakerResting, MatchMismatch, MatchExceedsRemaining, DuplicateOpen, MissingMatch, RemainingMismatch, DoneMismatch, MalformedChange, ChangeMismatch, UnsupportedModification, CrossedAfterApply, InvalidValue, CapacityExceeded, UnsupportedInput}
+use Rattle.reconstructor_answers.specs.declared.InvalidationKind.{InvalidationKind}
+use Rattle.reconstructor_answers.specs.declared.InvalidationKind.the-variants.{Gap, OutOfOrderOrDuplicate, SequenceOverflow, Discrepancy}
 use Rattle.reconstructor_state.specs.declared.Status.{Status}
 use Rattle.reconstructor_state.specs.declared.Status.the-variants.{Empty, Valid, Invalidated}
-use Rattle.reconstructor_state.specs.declared.MessageCounts.{MessageCounts}
+use Rattle.reconstructor_counts.specs.declared.MessageCounts.{MessageCounts}
 use Rattle.reconstructor_state.specs.declared.BookReconstructor.{BookReconstructor}
 use Rattle.host_words.specs.declared.KindWords.{KindWords}
 use Rattle.host_words.specs.declared.StatusWords.{StatusWords}

@@ -16,19 +16,19 @@ use Rattle.piece.specs.Piece.{sideOf, doneReasonOf, changeReasonOf}
 use Rattle.reconstructor_state.specs.declared.SizeDecrease.{SizeDecrease}
 use Rattle.reconstructor_state.specs.declared.SizeDecrease.the-variants.{KeepsPriority, PriorityUnknown}
 use Rattle.reconstructor_state.specs.declared.VenueRules.{VenueRules}
-use Rattle.reconstructor_state.specs.declared.MalformedReason.{MalformedReason}
-use Rattle.reconstructor_state.specs.declared.MalformedReason.the-variants.{Funds, NoSize}
-use Rattle.reconstructor_state.specs.declared.Discrepancy.{Discrepancy}
-use Rattle.reconstructor_state.specs.declared.Discrepancy.the-variants.{UnknownMaker, TakerResting, MatchMismatch, MatchExceedsRemaining, DuplicateOpen, MissingMatch, RemainingMismatch, DoneMismatch, MalformedChange, ChangeMismatch, UnsupportedModification, CrossedAfterApply, InvalidValue, CapacityExceeded, UnsupportedInput}
-use Rattle.reconstructor_state.specs.declared.InvalidationKind.{InvalidationKind}
-use Rattle.reconstructor_state.specs.declared.InvalidationKind.the-variants as kinds
+use Rattle.reconstructor_answers.specs.declared.MalformedReason.{MalformedReason}
+use Rattle.reconstructor_answers.specs.declared.MalformedReason.the-variants.{Funds, NoSize}
+use Rattle.reconstructor_answers.specs.declared.Discrepancy.{Discrepancy}
+use Rattle.reconstructor_answers.specs.declared.Discrepancy.the-variants.{UnknownMaker, TakerResting, MatchMismatch, MatchExceedsRemaining, DuplicateOpen, MissingMatch, RemainingMismatch, DoneMismatch, MalformedChange, ChangeMismatch, UnsupportedModification, CrossedAfterApply, InvalidValue, CapacityExceeded, UnsupportedInput}
+use Rattle.reconstructor_answers.specs.declared.InvalidationKind.{InvalidationKind}
+use Rattle.reconstructor_answers.specs.declared.InvalidationKind.the-variants as kinds
 use Rattle.reconstructor_state.specs.declared.Status.{Status}
 use Rattle.reconstructor_state.specs.declared.Status.the-variants.{Empty, Valid, Invalidated}
-use Rattle.reconstructor_state.specs.declared.MessageCounts.{MessageCounts}
+use Rattle.reconstructor_counts.specs.declared.MessageCounts.{MessageCounts}
 use Rattle.reconstructor_state.specs.declared.BookReconstructor.{BookReconstructor}
-use Rattle.reconstructor_state.specs.declared.ApplyAnswer.{ApplyAnswer}
-use Rattle.reconstructor_state.specs.declared.ApplyAnswer.the-variants as answers
-use Rattle.reconstructor_state.specs.Numbers.{kindNumber, kindDetail, appliedValue, answerNumber}
+use Rattle.reconstructor_answers.specs.declared.ApplyAnswer.{ApplyAnswer}
+use Rattle.reconstructor_answers.specs.declared.ApplyAnswer.the-variants as answers
+use Rattle.reconstructor_answers.specs.Numbers.{kindNumber, kindDetail, appliedValue, answerNumber}
 use Rattle.host_words.specs.declared.KindWords.{KindWords}
 use Rattle.host_words.specs.declared.StatusWords.{StatusWords}
 

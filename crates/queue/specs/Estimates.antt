@@ -16,10 +16,10 @@ use Rattle.book_queue.specs.declared.EntryForm.the-variants.{Ahead}
 use Rattle.book_queue.specs.Queue.{rowsAt, entriesWords}
 use Rattle.reconstructor_state.specs.declared.SizeDecrease.{SizeDecrease}
 use Rattle.reconstructor_state.specs.declared.SizeDecrease.the-variants.{KeepsPriority, PriorityUnknown}
-use Rattle.reconstructor_state.specs.declared.SegmentName.{SegmentName}
+use Rattle.reconstructor_segments.specs.declared.SegmentName.{SegmentName}
 use Rattle.reconstructor_state.specs.declared.BookReconstructor.{BookReconstructor}
 use Rattle.reconstructor_state.specs.Checks.{check, first}
-use Rattle.reconstructor_state.specs.Segments.{sameSegment}
+use Rattle.reconstructor_segments.specs.Segments.{sameSegment}
 use Rattle.reconstructor_state.specs.State.{lastOf}
 use Rattle.reconstructor_view.specs.View.{bookView}
 use Rattle.queue.specs.declared.Assumption.{Assumption}

@@ -4,8 +4,8 @@ use book::Resting;
 use book_queue::EntryForm;
 use message::L3Side;
 use message::OrderId;
+use reconstructor_segments::SegmentName;
 use reconstructor_state::BookReconstructor;
-use reconstructor_state::SegmentName;
 use reconstructor_state::SizeDecrease;
 use reconstructor_view::ViewError;
 use reconstructor_view::Viewed;
@@ -21,7 +21,7 @@ ghost use Rattle.book.specs.Line.{sameLevel};
 ghost use Rattle.book.specs.Rows.{Lent, ceiling, rowsOf, sideOf, idOf};
 ghost use Rattle.book.specs.Broken.{someRowBroken};
 ghost use Rattle.book_queue.specs.Queue.{rowsAt};
-ghost use Rattle.reconstructor_state.specs.Segments.{sameSegment};
+ghost use Rattle.reconstructor_segments.specs.Segments.{sameSegment};
 ghost use Rattle.queue.specs.Ahead.{rowWith, enteredAt, entriesFrom, stillAhead, before, decreasedAfter, tallyOf};
 ghost use Rattle.queue.specs.Steps.{noTally, tallyWith, tallyJoined, Small, RestsFor};
 ghost use Rattle.queue.specs.Estimates.{segmentOf, losesPlace, placeUnknown, estimateLeaves, queueEstimate, ownAnchor, queueEstimateOwn, tallied, ownAhead, volumeAhead};
@@ -479,7 +479,7 @@ fn is_stale(book: BookReconstructor, estimate: QueueEstimate) -> bool
     ensures { λ r. ⌜ r ≡ not (sameSegment (estimate .segment) (segmentOf book)) ⌝ }
 {
     let segment = estimate.segment;
-    !reconstructor_state::same_segment(segment, segment_of(book))
+    !reconstructor_segments::same_segment(segment, segment_of(book))
 }
 
 // The volume now ahead of the estimate's order. Only the orders ahead count, each with its current size: their matches, cancels and decreases reduce it,

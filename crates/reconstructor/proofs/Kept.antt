@@ -16,14 +16,14 @@ use Rattle.book.specs.declared.Resting.{Resting}
 use Rattle.book.specs.Line.{Entry}
 use Rattle.book.specs.Rows.{rowsOf, lineOf, stored}
 use Rattle.book.specs.Broken.{WellFormed}
-use Rattle.reconstructor_state.specs.declared.Invalidation.{Invalidation}
-use Rattle.reconstructor_state.specs.declared.InvalidationKind.{InvalidationKind}
-use Rattle.reconstructor_state.specs.declared.MessageCounts.{MessageCounts}
+use Rattle.reconstructor_answers.specs.declared.Invalidation.{Invalidation}
+use Rattle.reconstructor_answers.specs.declared.InvalidationKind.{InvalidationKind}
+use Rattle.reconstructor_counts.specs.declared.MessageCounts.{MessageCounts}
 use Rattle.reconstructor_state.specs.declared.VenueRules.{VenueRules}
 use Rattle.reconstructor_state.specs.declared.Status.{Status}
-use Rattle.reconstructor_state.specs.declared.ApplyAnswer.{ApplyAnswer}
+use Rattle.reconstructor_answers.specs.declared.ApplyAnswer.{ApplyAnswer}
 use Rattle.reconstructor_state.specs.declared.BookReconstructor.{BookReconstructor}
-use Rattle.reconstructor_state.specs.Numbers.{answerNumber}
+use Rattle.reconstructor_answers.specs.Numbers.{answerNumber}
 use Rattle.reconstructor_state.specs.State.{with, withCounts, lastOf}
 use Rattle.reconstructor_checks.specs.Own.{broken, Usable}
 use Rattle.reconstructor_plan.specs.Rules.{eventRefusal, eventDeed, effect, lineBy, markOf}
@@ -32,12 +32,12 @@ use Rattle.reconstructor.specs.Refusals.{admitRefusal, turnRefusal}
 use Rattle.reconstructor.specs.Applied.{refusedBook, refusedReply, invalidatedReply, acceptedReply, accepted, recorded, settled, gated, bookGate, applied, Parts, leaves, turned}
 use Rattle.book.proofs.Rows.{length-rows}
 use Rattle.book.proofs.Stored.{rows-stored, length-stored}
-use Rattle.reconstructor_state.proofs.Segments.{length-set-segment}
+use Rattle.reconstructor_segments.proofs.Segments.{length-set-segment}
 use Rattle.reconstructor_state.proofs.Checks.{passed, first-passed}
 use Rattle.reconstructor_checks.proofs.Own.{sound, kept, rows-lent, segments-lent, has-segment}
 use Rattle.reconstructor_plan.proofs.Kept.{event-formed, line-by}
 use Rattle.reconstructor.proofs.Laws.{admitted-valid, gate-trusted}
-use Rattle.reconstructor_state.specs.declared.ApplyAnswer.the-variants as answers
+use Rattle.reconstructor_answers.specs.declared.ApplyAnswer.the-variants as answers
 
 -- ---- a refusal
 

@@ -9,8 +9,8 @@ use lib.ListN.{length}
 use Rattle.message.specs.declared.ProductId.{ProductId}
 use Rattle.message.specs.declared.L3Message.{L3Message}
 use Rattle.book.specs.Rows.{ceiling, stored}
-use Rattle.reconstructor_state.specs.declared.ApplyAnswer.the-variants.{Unusable}
-use Rattle.reconstructor_state.specs.declared.StateError.{StateError}
+use Rattle.reconstructor_answers.specs.declared.ApplyAnswer.the-variants.{Unusable}
+use Rattle.reconstructor_answers.specs.declared.StateError.{StateError}
 use Rattle.reconstructor_state.specs.declared.Status.{Status}
 use Rattle.reconstructor_state.specs.declared.Status.the-variants.{Empty, Valid, Invalidated}
 use Rattle.reconstructor_state.specs.declared.BookReconstructor.{BookReconstructor}

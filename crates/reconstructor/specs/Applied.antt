@@ -5,17 +5,17 @@ use mathlib.Core.Option.{Option, none, some}
 use lib.ListN.{length}
 use Rattle.message.specs.declared.L3Message.{L3Message}
 use Rattle.book.specs.Rows.{rowsOf, lineOf, stored}
-use Rattle.reconstructor_state.specs.declared.Applied.{Applied}
-use Rattle.reconstructor_state.specs.declared.Counter.{Counter}
-use Rattle.reconstructor_state.specs.declared.Segment.{Segment}
-use Rattle.reconstructor_state.specs.declared.Invalidation.{Invalidation}
-use Rattle.reconstructor_state.specs.declared.InvalidationKind.{InvalidationKind}
+use Rattle.reconstructor_answers.specs.declared.Applied.{Applied}
+use Rattle.reconstructor_counts.specs.declared.Counter.{Counter}
+use Rattle.reconstructor_segments.specs.declared.Segment.{Segment}
+use Rattle.reconstructor_answers.specs.declared.Invalidation.{Invalidation}
+use Rattle.reconstructor_answers.specs.declared.InvalidationKind.{InvalidationKind}
 use Rattle.reconstructor_state.specs.declared.Status.the-variants.{Valid, Invalidated}
-use Rattle.reconstructor_state.specs.declared.ApplyAnswer.{ApplyAnswer}
-use Rattle.reconstructor_state.specs.declared.ApplyAnswer.the-variants as answers
+use Rattle.reconstructor_answers.specs.declared.ApplyAnswer.{ApplyAnswer}
+use Rattle.reconstructor_answers.specs.declared.ApplyAnswer.the-variants as answers
 use Rattle.reconstructor_state.specs.declared.BookReconstructor.{BookReconstructor}
-use Rattle.reconstructor_state.specs.Counts.{counted, countedAt}
-use Rattle.reconstructor_state.specs.Segments.{segmentAt, setSegment, extended, ended}
+use Rattle.reconstructor_counts.specs.Counts.{counted, countedAt}
+use Rattle.reconstructor_segments.specs.Segments.{segmentAt, setSegment, extended, ended}
 use Rattle.reconstructor_state.specs.State.{with, withCounts, withStatus, lastOf, viewOf, lengthsOf}
 use Rattle.reconstructor_checks.specs.Own.{broken}
 use Rattle.reconstructor_plan.specs.Rules.{Deed, eventDeed}

@@ -12,12 +12,12 @@ use Rattle.book.specs.Line.{Entry}
 use Rattle.reconstructor_state.specs.declared.VenueRules.{VenueRules}
 use Rattle.reconstructor_state.specs.declared.Status.{Status}
 use Rattle.reconstructor_state.specs.declared.Status.the-variants.{Empty, Valid, Invalidated}
-use Rattle.reconstructor_state.specs.declared.InvalidationKind.{InvalidationKind}
-use Rattle.reconstructor_state.specs.declared.InvalidationKind.the-variants.{Gap, OutOfOrderOrDuplicate, SequenceOverflow, Discrepancy}
-use Rattle.reconstructor_state.specs.declared.ApplyAnswer.{ApplyAnswer}
-use Rattle.reconstructor_state.specs.declared.ApplyAnswer.the-variants.{Unusable, AmountOutOfRange, WrongProduct, NotBootstrapped, AwaitingSnapshot}
+use Rattle.reconstructor_answers.specs.declared.InvalidationKind.{InvalidationKind}
+use Rattle.reconstructor_answers.specs.declared.InvalidationKind.the-variants.{Gap, OutOfOrderOrDuplicate, SequenceOverflow, Discrepancy}
+use Rattle.reconstructor_answers.specs.declared.ApplyAnswer.{ApplyAnswer}
+use Rattle.reconstructor_answers.specs.declared.ApplyAnswer.the-variants.{Unusable, AmountOutOfRange, WrongProduct, NotBootstrapped, AwaitingSnapshot}
 use Rattle.reconstructor_state.specs.Checks.{check, first}
-use Rattle.reconstructor_state.specs.Counts.{largest}
+use Rattle.reconstructor_counts.specs.Counts.{largest}
 use Rattle.reconstructor_state.specs.State.{View, Lengths}
 use Rattle.reconstructor_checks.specs.Own.{stateRefusal}
 use Rattle.reconstructor_plan.specs.Rules.{eventRefusal}

@@ -3,8 +3,8 @@ use Prim.Native.Nat.{ℕ}
 use mathlib.Core.Path.{_≡_}
 use mathlib.Core.List.{List}
 use mathlib.Core.Option.{Option, none, some}
-use Rattle.reconstructor_state.specs.declared.InvalidationKind.{InvalidationKind}
-use Rattle.reconstructor_state.specs.declared.ApplyAnswer.{ApplyAnswer}
+use Rattle.reconstructor_answers.specs.declared.InvalidationKind.{InvalidationKind}
+use Rattle.reconstructor_answers.specs.declared.ApplyAnswer.{ApplyAnswer}
 use Rattle.reconstructor_plan.specs.Rules.{Deed}
 use Rattle.reconstructor_plan.specs.Plans.{deedOf, PlanFits}
 use Rattle.reconstructor.specs.declared.Admitted.{Admitted}

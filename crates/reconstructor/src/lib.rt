@@ -1,15 +1,15 @@
 // One message applied to a book: `apply` checks the state and what it is lent, then `apply_trusted` works the message.
 use message::L3Message;
+use reconstructor_answers::Applied;
+use reconstructor_answers::ApplyAnswer;
+use reconstructor_answers::Invalidation;
+use reconstructor_answers::InvalidationKind;
 use reconstructor_checks::Checked;
+use reconstructor_counts::Counter;
 use reconstructor_plan::Plan;
 use reconstructor_plan::Planned;
-use reconstructor_state::Applied;
-use reconstructor_state::ApplyAnswer;
+use reconstructor_segments::Segment;
 use reconstructor_state::BookReconstructor;
-use reconstructor_state::Counter;
-use reconstructor_state::Invalidation;
-use reconstructor_state::InvalidationKind;
-use reconstructor_state::Segment;
 use reconstructor_state::Status;
 ghost use mathlib.Core.Path.{_≡_};
 ghost use Prim.Native.Nat.{_*_, _≤_, _<_};
@@ -215,9 +215,9 @@ fn record_answer(segments: &mut [u64], count: usize, answer: ApplyAnswer, messag
     ensures { λ _. ⌜ now (segments .exit) ≡ recorded (now (segments .entry)) count message answer ⌝ }
 {
     let at = count - 1;
-    let last = reconstructor_state::get_segment(segments, at);
+    let last = reconstructor_segments::get_segment(segments, at);
     let next = next_segment(last, answer, message.sequence, message.time_us);
-    reconstructor_state::set_segment(segments, at, next)
+    reconstructor_segments::set_segment(segments, at, next)
 }
 
 // `apply` of a state that passes 1, 2 and 3, without testing them again. It leaves such a state (`usable-kept`), so that a replay tests once.

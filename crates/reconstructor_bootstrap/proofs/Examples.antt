@@ -17,8 +17,8 @@ use Rattle.book.specs.Rows.{ceiling, rowsFrom, stored, sideOf}
 use Rattle.book.specs.Broken.{rowBroken}
 use Rattle.reconstructor_state.specs.declared.Status.the-variants.{Valid}
 use Rattle.reconstructor_state.specs.declared.BookReconstructor.{BookReconstructor}
-use Rattle.reconstructor_state.specs.Counts.{saturated, noCounts, countedAt}
-use Rattle.reconstructor_state.specs.Segments.{setSegment}
+use Rattle.reconstructor_counts.specs.Counts.{saturated, noCounts, countedAt}
+use Rattle.reconstructor_segments.specs.Segments.{setSegment}
 use Rattle.reconstructor_state.specs.State.{limitedRules, newBook, withCounts}
 use Rattle.reconstructor_state.specs.Checks.{check, first}
 use Rattle.reconstructor_checks.specs.Own.{broken, stateRefusal}

@@ -22,11 +22,11 @@ use Rattle.book.specs.Rows.{rowsOf, stored, snapshotRow}
 use Rattle.book.specs.Broken.{WellFormed, someOutOfRange, SnapshotFits}
 use Rattle.reconstructor_state.specs.declared.Status.{Status}
 use Rattle.reconstructor_state.specs.declared.Status.the-variants.{Empty, Valid, Invalidated}
-use Rattle.reconstructor_state.specs.declared.StateError.{StateError}
-use Rattle.reconstructor_state.specs.declared.StateError.the-variants.{LimitAboveCeiling, LentTooShort, MalformedBook}
+use Rattle.reconstructor_answers.specs.declared.StateError.{StateError}
+use Rattle.reconstructor_answers.specs.declared.StateError.the-variants.{LimitAboveCeiling, LentTooShort, MalformedBook}
 use Rattle.reconstructor_state.specs.Checks.{check, first}
 use Rattle.reconstructor_state.specs.declared.BookReconstructor.{BookReconstructor}
-use Rattle.reconstructor_state.specs.Segments.{segmentAt, superseded, started}
+use Rattle.reconstructor_segments.specs.Segments.{segmentAt, superseded, started}
 use Rattle.reconstructor_state.specs.State.{viewOf, lengthsOf, withCounts}
 use Rattle.reconstructor_checks.specs.Own.{broken, bookRefusal, Usable}
 use Rattle.reconstructor_bootstrap.specs.declared.SnapshotError.{SnapshotError}
@@ -41,7 +41,7 @@ use Rattle.laws.proofs.Bools.{or-no, or-both, and-yes}
 use Rattle.book.proofs.Kept.{snapshot-kept}
 use Rattle.book.proofs.Stored.{rows-stored, length-stored}
 use Rattle.message.proofs.Amounts.{in-range-most}
-use Rattle.reconstructor_state.proofs.Segments.{length-set-segment}
+use Rattle.reconstructor_segments.proofs.Segments.{length-set-segment}
 use Rattle.reconstructor_state.proofs.Checks.{passed, first-passed}
 use Rattle.reconstructor_checks.proofs.Own.{usable, sound, rows-lent, segments-lent, kept, has-segment}
 use Rattle.reconstructor_bootstrap.proofs.Places.{line-places}

@@ -16,7 +16,7 @@ use Rattle.book.specs.Line.{Entry}
 use Rattle.book.specs.Rows.{ceiling, rowsOf, lineOf, stored}
 use Rattle.reconstructor_state.specs.declared.VenueRules.{VenueRules}
 use Rattle.reconstructor_state.specs.declared.Status.the-variants.{Valid}
-use Rattle.reconstructor_state.specs.declared.StateError.{StateError}
+use Rattle.reconstructor_answers.specs.declared.StateError.{StateError}
 use Rattle.reconstructor_state.specs.declared.BookReconstructor.{BookReconstructor}
 use Rattle.reconstructor_state.specs.State.{viewOf, lengthsOf}
 use Rattle.reconstructor_checks.specs.Own.{Usable, bookRefusal}

@@ -12,8 +12,8 @@ use Rattle.book.specs.Rows.{stored, snapshotRow}
 use Rattle.reconstructor_state.specs.declared.Status.{Status}
 use Rattle.reconstructor_state.specs.declared.Status.the-variants.{Empty, Valid, Invalidated}
 use Rattle.reconstructor_state.specs.declared.BookReconstructor.{BookReconstructor}
-use Rattle.reconstructor_state.specs.Counts.{countedAt}
-use Rattle.reconstructor_state.specs.Segments.{segmentAt, setSegment, started, superseded}
+use Rattle.reconstructor_counts.specs.Counts.{countedAt}
+use Rattle.reconstructor_segments.specs.Segments.{segmentAt, setSegment, started, superseded}
 use Rattle.reconstructor_state.specs.State.{withCounts, viewOf, lengthsOf}
 use Rattle.reconstructor_checks.specs.Own.{broken}
 use Rattle.reconstructor_bootstrap.specs.declared.SnapshotError.{SnapshotError}

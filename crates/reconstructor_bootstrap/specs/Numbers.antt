@@ -1,6 +1,6 @@
 -- The numbers of 01's table that the cases of `bootstrap`'s answer stand for. No case carries a value of its own.
 use Prim.Native.Nat.{ℕ}
-use Rattle.reconstructor_state.specs.Numbers.{stateErrorNumber}
+use Rattle.reconstructor_answers.specs.Numbers.{stateErrorNumber}
 use Rattle.reconstructor_bootstrap.specs.declared.SnapshotError.{SnapshotError}
 use Rattle.reconstructor_bootstrap.specs.declared.SnapshotError.the-variants.{WrongProduct, DuplicateId, InvalidValue, Crossed, CapacityExceeded}
 use Rattle.reconstructor_bootstrap.specs.declared.SnapshotAnswer.{SnapshotAnswer}

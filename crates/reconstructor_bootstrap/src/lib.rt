@@ -7,10 +7,10 @@ use message::OrderId;
 use message::ProductId;
 use piece::PieceError;
 use piece::ReadSnapshot;
+use reconstructor_answers::StateError;
 use reconstructor_checks::Checked;
+use reconstructor_segments::Segment;
 use reconstructor_state::BookReconstructor;
-use reconstructor_state::Segment;
-use reconstructor_state::StateError;
 use reconstructor_state::Status;
 use reconstructor_state::VenueRules;
 ghost use mathlib.Core.Path.{_≡_};
@@ -335,8 +335,8 @@ fn close_last(segments: &mut [u64], status: Status, n: usize)
     match status {
         Status::Empty => {}
         Status::Valid { .. } => {
-            let last = reconstructor_state::get_segment(segments, n - 1);
-            reconstructor_state::set_segment(segments, n - 1, last.superseded());
+            let last = reconstructor_segments::get_segment(segments, n - 1);
+            reconstructor_segments::set_segment(segments, n - 1, last.superseded());
         }
         Status::Invalidated(_) => {}
     }
@@ -380,7 +380,7 @@ fn accept(
     let next = booted(book, snapshot.sequence, n);
     store_rows(rows, book.rows, bytes, snapshot.bids, n, snapshot.sequence);
     close_last(segments, status, count);
-    reconstructor_state::set_segment(segments, count, Segment::started(snapshot.sequence));
+    reconstructor_segments::set_segment(segments, count, Segment::started(snapshot.sequence));
     Reply {
         book: next,
         answer: SnapshotAnswer::Bootstrapped,

@@ -14,7 +14,7 @@ use Rattle.book.specs.Rows.{ceiling, rowsOf, Lent}
 use Rattle.book.specs.Broken.{rowsBroken, wordsBroken, WellFormed}
 use Rattle.reconstructor_state.specs.declared.VenueRules.{VenueRules}
 use Rattle.reconstructor_state.specs.declared.Status.the-variants.{Valid}
-use Rattle.reconstructor_state.specs.declared.StateError.{StateError}
+use Rattle.reconstructor_answers.specs.declared.StateError.{StateError}
 use Rattle.reconstructor_state.specs.declared.BookReconstructor.{BookReconstructor}
 use Rattle.reconstructor_state.specs.State.{viewOf, lengthsOf}
 use Rattle.reconstructor_checks.specs.declared.Checked.{Checked}

@@ -10,8 +10,8 @@ use Rattle.book.specs.Broken.{rowsBroken}
 use Rattle.reconstructor_state.specs.declared.VenueRules.{VenueRules}
 use Rattle.reconstructor_state.specs.declared.Status.{Status}
 use Rattle.reconstructor_state.specs.declared.Status.the-variants.{Empty, Valid, Invalidated}
-use Rattle.reconstructor_state.specs.declared.StateError.{StateError}
-use Rattle.reconstructor_state.specs.declared.StateError.the-variants.{LimitAboveCeiling, LentTooShort, MalformedBook}
+use Rattle.reconstructor_answers.specs.declared.StateError.{StateError}
+use Rattle.reconstructor_answers.specs.declared.StateError.the-variants.{LimitAboveCeiling, LentTooShort, MalformedBook}
 use Rattle.reconstructor_state.specs.declared.BookReconstructor.{BookReconstructor}
 use Rattle.reconstructor_state.specs.Checks.{check}
 use Rattle.reconstructor_state.specs.State.{View, viewOf, Lengths, lengthsOf}

@@ -1,6 +1,6 @@
 // The port's own checks of a state and of what a call is lent: 1, 2 and 3, which every call that changes the book makes first.
+use reconstructor_answers::StateError;
 use reconstructor_state::BookReconstructor;
-use reconstructor_state::StateError;
 use reconstructor_state::Status;
 use reconstructor_state::VenueRules;
 ghost use mathlib.Core.Path.{_≡_};

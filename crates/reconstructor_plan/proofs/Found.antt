@@ -15,8 +15,8 @@ use Rattle.book.specs.declared.Resting.{Resting}
 use Rattle.book.specs.Line.{find, present, rests}
 use Rattle.book.specs.declared.Decrease.{Decrease}
 use Rattle.book.specs.Rows.{rowAt, rowsOf, lineOf, entryOf, findRow, cutRows}
-use Rattle.reconstructor_state.specs.declared.Counter.{Counter}
-use Rattle.reconstructor_state.specs.declared.Applied.the-variants.{BookChanged}
+use Rattle.reconstructor_counts.specs.declared.Counter.{Counter}
+use Rattle.reconstructor_answers.specs.declared.Applied.the-variants.{BookChanged}
 use Rattle.reconstructor_plan.specs.declared.Plan.the-variants.{Reduce, Remove}
 use Rattle.reconstructor_plan.specs.Plans.{deedOf, cutPlan, PlanFits}
 use Rattle.book.proofs.Rows.{length-rows}

@@ -10,10 +10,10 @@ use Rattle.message.specs.declared.L3Event.{L3Event}
 use Rattle.book.specs.declared.Decrease.{Decrease}
 use Rattle.book.specs.Rows.{ceiling, rowAt, rowsOf, lineOf, removeAt, reduced}
 use Rattle.reconstructor_state.specs.declared.VenueRules.{VenueRules}
-use Rattle.reconstructor_state.specs.declared.Counter.{Counter}
-use Rattle.reconstructor_state.specs.declared.Counter.the-variants as counters
-use Rattle.reconstructor_state.specs.declared.Applied.the-variants.{BookChanged, NoBookEffect}
-use Rattle.reconstructor_state.specs.declared.Discrepancy.{Discrepancy}
+use Rattle.reconstructor_counts.specs.declared.Counter.{Counter}
+use Rattle.reconstructor_counts.specs.declared.Counter.the-variants as counters
+use Rattle.reconstructor_answers.specs.declared.Applied.the-variants.{BookChanged, NoBookEffect}
+use Rattle.reconstructor_answers.specs.declared.Discrepancy.{Discrepancy}
 use Rattle.reconstructor_plan.specs.declared.Plan.{Plan}
 use Rattle.reconstructor_plan.specs.declared.Plan.the-variants.{NoEffect, Insert, Reduce, Remove}
 use Rattle.reconstructor_plan.specs.declared.Planned.{Planned}

@@ -25,14 +25,14 @@ use Rattle.book.specs.declared.Resting.{Resting}
 use Rattle.book.specs.Line.{Entry, find, rests, cut, hasLevel, levels, wouldCross}
 use Rattle.book.specs.Rows.{lineOf, cutRows, observedRow}
 use Rattle.reconstructor_state.specs.declared.VenueRules.{VenueRules}
-use Rattle.reconstructor_state.specs.declared.Counter.{Counter}
-use Rattle.reconstructor_state.specs.declared.Counter.the-variants as counters
-use Rattle.reconstructor_state.specs.declared.Applied.{Applied}
-use Rattle.reconstructor_state.specs.declared.Applied.the-variants.{BookChanged, NoBookEffect}
-use Rattle.reconstructor_state.specs.declared.MalformedReason.{MalformedReason}
-use Rattle.reconstructor_state.specs.declared.MalformedReason.the-variants.{Funds, NoSize}
-use Rattle.reconstructor_state.specs.declared.Discrepancy.{Discrepancy}
-use Rattle.reconstructor_state.specs.declared.Discrepancy.the-variants.{UnknownMaker, TakerResting, MatchMismatch, MatchExceedsRemaining, DuplicateOpen, MissingMatch, RemainingMismatch, DoneMismatch, MalformedChange, ChangeMismatch, UnsupportedModification, CrossedAfterApply, InvalidValue, CapacityExceeded, UnsupportedInput}
+use Rattle.reconstructor_counts.specs.declared.Counter.{Counter}
+use Rattle.reconstructor_counts.specs.declared.Counter.the-variants as counters
+use Rattle.reconstructor_answers.specs.declared.Applied.{Applied}
+use Rattle.reconstructor_answers.specs.declared.Applied.the-variants.{BookChanged, NoBookEffect}
+use Rattle.reconstructor_answers.specs.declared.MalformedReason.{MalformedReason}
+use Rattle.reconstructor_answers.specs.declared.MalformedReason.the-variants.{Funds, NoSize}
+use Rattle.reconstructor_answers.specs.declared.Discrepancy.{Discrepancy}
+use Rattle.reconstructor_answers.specs.declared.Discrepancy.the-variants.{UnknownMaker, TakerResting, MatchMismatch, MatchExceedsRemaining, DuplicateOpen, MissingMatch, RemainingMismatch, DoneMismatch, MalformedChange, ChangeMismatch, UnsupportedModification, CrossedAfterApply, InvalidValue, CapacityExceeded, UnsupportedInput}
 use Rattle.reconstructor_state.specs.Checks.{check}
 
 -- what an accepted event does to the line: nothing; an order joins the back; or the order of that id has so much left, and leaves at zero

@@ -1,6 +1,6 @@
 -- The numbers of 01's table that the cases of a level read's answer stand for; 0 for a read that is not turned away.
 use Prim.Native.Nat.{ℕ}
-use Rattle.reconstructor_state.specs.Numbers.{stateErrorNumber}
+use Rattle.reconstructor_answers.specs.Numbers.{stateErrorNumber}
 use Rattle.reconstructor_view.specs.Numbers.{viewErrorNumber}
 use Rattle.reconstructor_reads.specs.declared.Shown.{Shown}
 use Rattle.reconstructor_reads.specs.declared.Shown.the-variants.{Entries, OutputTooSmall}

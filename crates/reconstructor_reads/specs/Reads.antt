@@ -15,7 +15,7 @@ use Rattle.book_queue.specs.declared.EntryForm.the-variants.{Queue}
 use Rattle.book_queue.specs.Queue.{rowsAt, entriesWords}
 use Rattle.reconstructor_state.specs.declared.Status.{Status}
 use Rattle.reconstructor_state.specs.declared.Status.the-variants as statuses
-use Rattle.reconstructor_state.specs.declared.StateError.{StateError}
+use Rattle.reconstructor_answers.specs.declared.StateError.{StateError}
 use Rattle.reconstructor_state.specs.declared.BookReconstructor.{BookReconstructor}
 use Rattle.reconstructor_view.specs.declared.ViewError.{ViewError}
 use Rattle.reconstructor_view.specs.View.{stateRead, bookView}

@@ -1,9 +1,9 @@
 // The level reads: `level_queue`, `priority_profile`, `l2` of a valid book, `stale_l2` of an invalid one. Scratch and output are written only once 7 is out.
 use book_queue::EntryForm;
 use message::L3Side;
+use reconstructor_answers::StateError;
 use reconstructor_checks::Checked;
 use reconstructor_state::BookReconstructor;
-use reconstructor_state::StateError;
 use reconstructor_state::Status;
 use reconstructor_view::ViewError;
 use reconstructor_view::Viewed;

@@ -1,5 +1,2 @@
-pub mod Numbers
-pub mod Counts
-pub mod Segments
 pub mod State
 pub mod Checks

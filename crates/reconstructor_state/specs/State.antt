@@ -9,10 +9,10 @@ use Rattle.reconstructor_state.specs.declared.SizeDecrease.the-variants.
 use Rattle.reconstructor_state.specs.declared.VenueRules.{VenueRules}
 use Rattle.reconstructor_state.specs.declared.Status.{Status}
 use Rattle.reconstructor_state.specs.declared.Status.the-variants.{Empty, Valid, Invalidated}
-use Rattle.reconstructor_state.specs.declared.MessageCounts.{MessageCounts}
+use Rattle.reconstructor_counts.specs.declared.MessageCounts.{MessageCounts}
 use Rattle.reconstructor_state.specs.declared.BookReconstructor.{BookReconstructor}
-use Rattle.reconstructor_state.specs.Counts.{noCounts}
-use Rattle.reconstructor_state.specs.Segments.{segmentAt}
+use Rattle.reconstructor_counts.specs.Counts.{noCounts}
+use Rattle.reconstructor_segments.specs.Segments.{segmentAt}
 
 -- 01, Forms that change: "Limits and defaults sit with the rules' type (4,096 orders and levels ..)"
 abbrev pub limitedRules : ℕ → ℕ → VenueRules

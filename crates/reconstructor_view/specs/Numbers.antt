@@ -1,7 +1,7 @@
 -- The numbers of 01's table that the cases stand for, and the values that they carry.
 use Prim.Native.Nat.{ℕ}
 use mathlib.Core.List.{List, []}
-use Rattle.reconstructor_state.specs.Numbers.{stateErrorNumber, invalidationValues}
+use Rattle.reconstructor_answers.specs.Numbers.{stateErrorNumber, invalidationValues}
 use Rattle.reconstructor_view.specs.declared.ViewError.{ViewError}
 use Rattle.reconstructor_view.specs.declared.ViewError.the-variants.{Unusable, NotBootstrapped, Invalidated}
 

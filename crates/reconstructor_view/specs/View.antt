@@ -13,11 +13,11 @@ use Rattle.book_valid.specs.Audit.{auditRows}
 use Rattle.reconstructor_state.specs.declared.VenueRules.{VenueRules}
 use Rattle.reconstructor_state.specs.declared.Status.{Status}
 use Rattle.reconstructor_state.specs.declared.Status.the-variants as statuses
-use Rattle.reconstructor_state.specs.declared.StateError.{StateError}
-use Rattle.reconstructor_state.specs.declared.StateError.the-variants.{LimitAboveCeiling, LentTooShort, MalformedBook}
+use Rattle.reconstructor_answers.specs.declared.StateError.{StateError}
+use Rattle.reconstructor_answers.specs.declared.StateError.the-variants.{LimitAboveCeiling, LentTooShort, MalformedBook}
 use Rattle.reconstructor_state.specs.declared.BookReconstructor.{BookReconstructor}
 use Rattle.reconstructor_state.specs.Checks.{check, first}
-use Rattle.reconstructor_state.specs.Segments.{segmentAt}
+use Rattle.reconstructor_segments.specs.Segments.{segmentAt}
 use Rattle.reconstructor_state.specs.State.{lastOf}
 use Rattle.reconstructor_checks.specs.Own.{overCeiling, broken}
 use Rattle.reconstructor_view.specs.declared.ViewError.{ViewError}

@@ -1,11 +1,11 @@
 // Whether a book may be read, and the reads whose answer is a value: `last_sequence`, `best`, `audit`.
 use book::BestPrice;
 use book_valid::AuditAnswer;
+use reconstructor_answers::Invalidation;
+use reconstructor_answers::StateError;
 use reconstructor_checks::Checked;
+use reconstructor_segments::Segment;
 use reconstructor_state::BookReconstructor;
-use reconstructor_state::Invalidation;
-use reconstructor_state::Segment;
-use reconstructor_state::StateError;
 use reconstructor_state::Status;
 ghost use mathlib.Core.Path.{_≡_};
 ghost use mathlib.Core.Bool.{false};
@@ -160,5 +160,5 @@ pub fn segment(book: BookReconstructor, segments: &[u64], place: usize) -> Segme
     if place >= segments.len() / 8 {
         return SegmentAnswer::NoRecord;
     }
-    SegmentAnswer::Record(reconstructor_state::get_segment(segments, place))
+    SegmentAnswer::Record(reconstructor_segments::get_segment(segments, place))
 }

@@ -22,18 +22,18 @@ use Rattle.book.specs.Rows.{ceiling, rowsFrom, rowsOf, lineOf, stored, sideOf}
 use Rattle.book.specs.Broken.{rowBroken}
 use Rattle.reconstructor_state.specs.declared.Status.{Status}
 use Rattle.reconstructor_state.specs.declared.Status.the-variants.{Empty, Valid}
-use Rattle.reconstructor_state.specs.declared.ApplyAnswer.{ApplyAnswer}
+use Rattle.reconstructor_answers.specs.declared.ApplyAnswer.{ApplyAnswer}
 use Rattle.reconstructor_state.specs.declared.BookReconstructor.{BookReconstructor}
 use Rattle.reconstructor_state.specs.Checks.{check, first}
-use Rattle.reconstructor_state.specs.Counts.{largest, saturated, noCounts}
-use Rattle.reconstructor_state.specs.Numbers.{kindNumber, answerNumber}
-use Rattle.reconstructor_state.specs.Segments.{setSegment}
+use Rattle.reconstructor_counts.specs.Counts.{largest, saturated, noCounts}
+use Rattle.reconstructor_answers.specs.Numbers.{kindNumber, answerNumber}
+use Rattle.reconstructor_segments.specs.Segments.{setSegment}
 use Rattle.reconstructor_state.specs.State.{limitedRules}
 use Rattle.reconstructor_checks.specs.Own.{broken, stateRefusal}
 use Rattle.reconstructor_plan.specs.Rules.{openRefusal, doneRefusal, makerRefusal, changeRefusal, sizeRefusal, eventRefusal, effect, counterOf, eventDeed}
 use Rattle.reconstructor.specs.Refusals.{admitRefusal, gateRefusal, turnRefusal}
 use Rattle.reconstructor.specs.Applied.{Parts, refusedReply, invalidatedReply, acceptedReply, accepted, recorded, settled, gated, applied}
-use Rattle.reconstructor_state.specs.declared.ApplyAnswer.the-variants as answers
+use Rattle.reconstructor_answers.specs.declared.ApplyAnswer.the-variants as answers
 use mathlib.Core.Bool.{false}
 use Rattle.message.specs.declared.SnapshotOrder.{SnapshotOrder}
 use Rattle.piece.specs.Bytes.{part, little, big, littleBytes, bigBytes}

@@ -5,7 +5,7 @@ use mir.Syntax.{w64}
 use mir.Val.{toZ, ofZ}
 use borrow.Author.Needs.{needs}
 use Rattle.book.specs.declared.Decrease.the-variants.{Marked}
-use Rattle.reconstructor_state.specs.declared.Counter.the-variants.{Stp}
+use Rattle.reconstructor_counts.specs.declared.Counter.the-variants.{Stp}
 use Rattle.message.specs.Amounts.{natOf}
 use Rattle.reconstructor_plan.specs.Rules.{eventRefusal, changeRefusal, sizeRefusal, eventDeed, effect, counterOf}
 use Rattle.reconstructor_state.proofs.Checks.{fails, goes-on, told-true, told-false, links}

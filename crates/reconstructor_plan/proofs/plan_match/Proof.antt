@@ -4,7 +4,7 @@ use borrow.Author.Tests.{ne-eqb, le-ltb}
 use Prim.Native.Nat.{_-_}
 use borrow.Author.Needs.{needs}
 use Rattle.book.specs.declared.Decrease.the-variants.{Unmarked}
-use Rattle.reconstructor_state.specs.declared.Counter.the-variants.{Matched}
+use Rattle.reconstructor_counts.specs.declared.Counter.the-variants.{Matched}
 use Rattle.reconstructor_plan.specs.Rules.{eventRefusal, makerRefusal, eventDeed, effect, counterOf}
 use Rattle.message.proofs.Signed.{back, sized}
 use Rattle.reconstructor_state.proofs.Checks.{fails, goes-on, told-false, links}

@@ -1,0 +1,148 @@
+// Segment records, eight words each in a lent list, and segment names.
+use reconstructor_answers::Invalidation;
+ghost use mathlib.Core.Path.{_≡_};
+ghost use Prim.Native.Nat.{_+_, _*_, _≤_};
+ghost use lib.ListN.{length};
+ghost use Rattle.reconstructor_segments.specs.Segments.{segmentAt, setSegment, started, superseded, extended, ended, elapsed, acceptedMessages, sameSegment};
+
+// A run of messages applied on one snapshot: the eight words of its record, in their order.
+pub struct Segment {
+    // The snapshot's sequence.
+    pub start_seq: u64,
+    // The last sequence applied while valid.
+    pub last_good_seq: u64,
+    // 0 open, 1 superseded by a new snapshot, else the number of the reason that ended it, 20 to 44.
+    pub end: u64,
+    // Of such an end: the last good sequence, the offending one, and of 38 its reason (1 funds, 0 no size). 0 before.
+    pub end_good: u64,
+    pub end_seq: u64,
+    pub end_detail: u64,
+    // The time of the first and of the latest accepted message; 0 until one is accepted.
+    pub first_us: u64,
+    pub last_us: u64,
+}
+
+// Record `i` of a list.
+pub fn get_segment(segments: &[u64], i: usize) -> Segment
+    requires { ⌜ 8 * i + 8 ≤ length (now segments) ⌝ }
+    ensures { λ r. ⌜ r ≡ segmentAt (now (segments .entry)) i ⌝ }
+{
+    let at = 8 * i;
+    Segment {
+        start_seq: segments[at],
+        last_good_seq: segments[at + 1],
+        end: segments[at + 2],
+        end_good: segments[at + 3],
+        end_seq: segments[at + 4],
+        end_detail: segments[at + 5],
+        first_us: segments[at + 6],
+        last_us: segments[at + 7],
+    }
+}
+
+// Writes record `i`.
+pub fn set_segment(segments: &mut [u64], i: usize, segment: Segment)
+    requires { ⌜ 8 * i + 8 ≤ length (now segments) ⌝ }
+    ensures { λ _. ⌜ now (segments .exit) ≡ setSegment (now (segments .entry)) i segment ⌝ }
+{
+    let at = 8 * i;
+    segments[at] = segment.start_seq;
+    segments[at + 1] = segment.last_good_seq;
+    segments[at + 2] = segment.end;
+    segments[at + 3] = segment.end_good;
+    segments[at + 4] = segment.end_seq;
+    segments[at + 5] = segment.end_detail;
+    segments[at + 6] = segment.first_us;
+    segments[at + 7] = segment.last_us;
+}
+
+impl Segment {
+    pub const OPEN: u64 = 0;
+
+    pub const SUPERSEDED: u64 = 1;
+
+    // The record that a snapshot starts.
+    pub fn started(sequence: u64) -> Self
+        ensures { λ r. ⌜ r ≡ started sequence ⌝ }
+    {
+        Self {
+            start_seq: sequence,
+            last_good_seq: sequence,
+            end: Self::OPEN,
+            end_good: 0,
+            end_seq: 0,
+            end_detail: 0,
+            first_us: 0,
+            last_us: 0,
+        }
+    }
+
+    // Replaced by a new snapshot while still valid.
+    pub fn superseded(mut self) -> Self
+        ensures { λ r. ⌜ r ≡ superseded self ⌝ }
+    {
+        self.end = Self::SUPERSEDED;
+        self
+    }
+
+    // A message was accepted. The first one is told by the sequence, since a time may be 0.
+    pub fn extended(mut self, sequence: u64, time_us: u64) -> Self
+        ensures { λ r. ⌜ r ≡ extended self sequence «time_us» ⌝ }
+    {
+        if self.last_good_seq == self.start_seq {
+            self.first_us = time_us;
+            self.last_good_seq = sequence;
+            self.last_us = time_us;
+            return self;
+        }
+        self.last_good_seq = sequence;
+        self.last_us = time_us;
+        self
+    }
+
+    // A message ended it.
+    pub fn ended(mut self, invalidation: Invalidation) -> Self
+        ensures { λ r. ⌜ r ≡ ended self invalidation ⌝ }
+    {
+        let kind = invalidation.kind;
+        let end = kind.number();
+        let detail = kind.detail();
+        self.end = end;
+        self.end_good = invalidation.last_good_seq;
+        self.end_seq = invalidation.first_offending_seq;
+        self.end_detail = detail;
+        self
+    }
+
+    // Its elapsed time: 0 where the latest time is before the first.
+    pub fn elapsed(self) -> u64
+        ensures { λ r. ⌜ r ≡ elapsed self ⌝ }
+    {
+        if self.last_us < self.first_us {
+            return 0;
+        }
+        self.last_us - self.first_us
+    }
+
+    // How many messages were accepted on its snapshot.
+    pub fn accepted_messages(self) -> u64
+        ensures { λ r. ⌜ r ≡ acceptedMessages self ⌝ }
+    {
+        if self.last_good_seq < self.start_seq {
+            return 0;
+        }
+        self.last_good_seq - self.start_seq
+    }
+}
+
+// A segment's name: the reconstructor's number, which the host gives, with the segment's place in the list.
+pub struct SegmentName {
+    pub number: u64,
+    pub place: usize,
+}
+
+pub fn same_segment(a: SegmentName, b: SegmentName) -> bool
+    ensures { λ r. ⌜ r ≡ sameSegment a b ⌝ }
+{
+    (a.number == b.number) & (a.place == b.place)
+}
