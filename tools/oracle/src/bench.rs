@@ -4,7 +4,6 @@ mod apply;
 mod books;
 mod bootstrap;
 mod pieces;
-#[cfg(feature = "reads")]
 mod reads;
 mod rows;
 
@@ -34,7 +33,6 @@ const ALL: &[(&str, fn())] = &[
     ("rows", rows::run),
     ("apply", apply::run),
     ("bootstrap", bootstrap::run),
-    #[cfg(feature = "reads")]
     ("reads", reads::run),
 ];
 

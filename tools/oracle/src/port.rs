@@ -2,7 +2,6 @@
 //!
 //! The declarations are by hand: nothing checks them against the source of crate `host`, so the runs of `reader.rs` and `ported.rs` do.
 
-#[cfg(feature = "reads")]
 pub mod reads;
 
 mod exported {

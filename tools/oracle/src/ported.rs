@@ -1,11 +1,9 @@
-//! The port as a `Subject`: `bootstrap` and `apply`, and with the feature `reads` the reads and estimates, through the exported functions.
+//! The port as a `Subject`: `bootstrap`, `apply`, the reads and the estimates, through the exported functions.
 //!
 //! What the port does not export yet (handshakes) has no word here.
 
 mod book;
-#[cfg(feature = "reads")]
 pub mod cases;
-#[cfg(feature = "reads")]
 mod reads;
 
 use std::collections::BTreeMap;
@@ -23,7 +21,6 @@ use book::Book;
 #[derive(Default)]
 pub struct Ported {
     books: BTreeMap<u8, Book>,
-    #[cfg(feature = "reads")]
     reads: reads::Reads,
 }
 
@@ -55,7 +52,6 @@ impl Ported {
             self.books.insert(call.book, Book::create(&call.act)?);
             return Some(Reply::new(0, Values::Nothing));
         }
-        #[cfg(feature = "reads")]
         if reads::asks(&call.act) {
             return self.reads.reply(&self.books, call);
         }
@@ -102,27 +98,16 @@ fn applied(answer: u64, status: Status) -> Reply {
 
 /// Whether the port can be asked.
 pub fn exported(act: &Act) -> bool {
-    #[cfg(feature = "reads")]
-    if reads::asks(act) {
-        return true;
-    }
-    matches!(
-        act,
-        Act::Create { .. }
-            | Act::Bootstrap { .. }
-            | Act::Apply { .. }
-            | Act::SetRow { .. }
-            | Act::SetSegment { .. }
-            | Act::SetState { .. }
-    )
-}
-
-/// Whether the answer shows the call's book.
-fn concerns_book(_act: &Act) -> bool {
-    #[cfg(feature = "reads")]
-    return reads::concerns_book(_act);
-    #[cfg(not(feature = "reads"))]
-    true
+    reads::asks(act)
+        || matches!(
+            act,
+            Act::Create { .. }
+                | Act::Bootstrap { .. }
+                | Act::Apply { .. }
+                | Act::SetRow { .. }
+                | Act::SetSegment { .. }
+                | Act::SetState { .. }
+        )
 }
 
 impl Subject for Ported {
@@ -139,7 +124,7 @@ impl Subject for Ported {
             return Answer::Absent;
         };
         let book = self.books.get_mut(&call.book);
-        let book = book.filter(|_| concerns_book(&call.act));
+        let book = book.filter(|_| reads::concerns_book(&call.act));
         Answer::Said(Box::new(Said {
             number: u8::try_from(number).expect("a number of 01"),
             voice: Voice::Port,
@@ -158,7 +143,6 @@ pub struct Tally {
     pub numbers: BTreeMap<&'static str, BTreeMap<u8, u64>>,
     pub most_rows: u64,
     pub most_grown: u64,
-    #[cfg(feature = "reads")]
     pub cases: cases::Cases,
 }
 
@@ -173,7 +157,6 @@ impl Tally {
         }
         self.most_rows = self.most_rows.max(other.most_rows);
         self.most_grown = self.most_grown.max(other.most_grown);
-        #[cfg(feature = "reads")]
         self.cases.merge(&other.cases);
     }
 
@@ -298,9 +281,6 @@ pub fn compare(seed: u64, count: u64) -> Result<Tally, String> {
             tally.note(&call.act, said, seen.entry(call.book).or_default());
         }
     }
-    #[cfg(feature = "reads")]
-    {
-        tally.cases = port.reads.cases;
-    }
+    tally.cases = port.reads.cases;
     Ok(tally)
 }

@@ -1,4 +1,4 @@
-//! `bootstrap` and `apply` of the port beside the Rust and the model. Built with the feature `port` only; SEED, STREAMS and CALLS give another run.
+//! The port's `bootstrap`, `apply`, reads and estimates beside the Rust and the model. Built with the feature `port` only; SEED, STREAMS and CALLS give another run.
 //!
 //! A call costs as much as its book is large, and a stream's books grow. So most calls are made in short streams, and one long
 //! stream fills a book to the ceiling.
@@ -26,10 +26,6 @@ const NUMBERS: &[(&str, &[u8])] = &[
         "apply",
         &[30, 31, 32, 33, 34, 35, 36, 37, 38, 39, 40, 41, 42, 43, 44],
     ),
-];
-
-#[cfg(feature = "reads")]
-const READ_NUMBERS: &[(&str, &[u8])] = &[
     ("last_sequence", &[0, 1, 2, 3, 15, 18]),
     ("best", &[0, 1, 2, 3, 15, 18]),
     ("audit", &[0, 1, 2, 3, 15, 18]),
@@ -72,12 +68,8 @@ fn short_streams_agree() {
     }
     println!("{streams} streams from seed {seed} on: {all:?}");
     reaches_every_number(&all);
-    #[cfg(feature = "reads")]
-    {
-        all_met(&all, READ_NUMBERS);
-        let missing = all.cases.missing();
-        assert!(missing.is_empty(), "never met: {missing:?}");
-    }
+    let missing = all.cases.missing();
+    assert!(missing.is_empty(), "never met: {missing:?}");
 }
 
 #[test]

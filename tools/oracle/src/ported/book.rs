@@ -8,7 +8,6 @@ use crate::piece::Product;
 use crate::port;
 
 const RECORD: usize = 8;
-#[cfg(feature = "reads")]
 const ROW: usize = 8;
 /// Stand behind each memory, and must stay.
 pub const GUARDS: usize = 4;
@@ -26,9 +25,7 @@ pub struct Book {
 
 /// Places in the block, as crate `host_words` documents them.
 mod at {
-    #[cfg(feature = "reads")]
     pub const MAX_ORDERS: usize = 3;
-    #[cfg(feature = "reads")]
     pub const NUMBER: usize = 5;
     pub const STATUS: usize = 6;
     pub const LAST: usize = 7;
@@ -258,7 +255,6 @@ impl Book {
     }
 }
 
-#[cfg(feature = "reads")]
 impl Book {
     /// Calls `function` with the block, its guards included, and the lent rows. It may only read: the whole memory is compared.
     pub fn read(&self, lent: &Lent, function: impl FnOnce(&[u64], &[u64]) -> u64) -> u64 {
@@ -292,10 +288,8 @@ impl Book {
 }
 
 /// Words as they were before a call that may only read them.
-#[cfg(feature = "reads")]
 pub struct Kept(Vec<u64>);
 
-#[cfg(feature = "reads")]
 impl Kept {
     pub fn of(words: &[u64]) -> Kept {
         Kept(std::hint::black_box(words.to_vec()))
