@@ -4,6 +4,7 @@
 
 mod book;
 pub mod cases;
+mod forms;
 mod reads;
 
 use std::collections::BTreeMap;
@@ -12,16 +13,23 @@ use crate::call::{
     Act, Anchor, Answer, Applied, Buffers, Call, Said, Status, Subject, Values, Voice,
 };
 use crate::generate::Generator;
+use crate::generate::random::Random;
 use crate::model::Model;
-use crate::piece::shape_message;
+use crate::piece::{Message, shape_message};
 use crate::port;
 use crate::reader::message_words;
-use book::Book;
+use book::{Book, Effect, GUARDS};
+use cases::Cases;
 
-#[derive(Default)]
+/// How many calls in a hundred are made before with a slice of a fixed size lent short.
+const SHORT_PERCENT: u64 = 12;
+
 pub struct Ported {
     books: BTreeMap<u8, Book>,
     reads: reads::Reads,
+    /// Draws the form of a state and of a message.
+    random: Random,
+    cases: Cases,
 }
 
 /// What a call comes to.
@@ -42,8 +50,59 @@ impl Reply {
 }
 
 impl Ported {
-    pub fn new() -> Ported {
-        Ported::default()
+    pub fn new(seed: u64) -> Ported {
+        Ported {
+            books: BTreeMap::new(),
+            reads: reads::Reads::default(),
+            random: Random::new(seed),
+            cases: Cases::default(),
+        }
+    }
+
+    /// Calls `function` with the book's memory as the call lends it; the number that it answers.
+    fn lend(
+        &mut self,
+        call: &Call,
+        function: impl Fn(&mut [u64], &mut [u64], &mut [u64]) -> u64,
+    ) -> Option<u64> {
+        let (book, name) = (self.books.get_mut(&call.book)?, call.act.name());
+        if self.random.chance(SHORT_PERCENT) {
+            let words = self.random.pick(&[0, port::BLOCK_WORDS - 1]);
+            book.refuses_short(&call.lent, words, &function);
+            self.cases.add(name, "state short");
+        }
+        let (before, mut scattered) = (book.block, false);
+        for form in forms::of(&before) {
+            self.cases.add(name, form);
+            scattered = true;
+        }
+        let words = port::BLOCK_WORDS + self.random.below(GUARDS as u64 + 1) as usize;
+        let answer = book.lend(&call.lent, words, function);
+        book.check_block(&before, effect(&call.act, answer));
+        if scattered {
+            self.cases.add(name, cases::outcome(answer));
+        }
+        Some(answer)
+    }
+
+    fn apply(&mut self, call: &Call, message: &Message) -> Option<Reply> {
+        let mut words = message_words(message);
+        if self.random.chance(50) {
+            forms::scatter_message(&mut words, &mut self.random);
+            self.cases.add("apply", "another form of a message");
+        }
+        if self.random.chance(SHORT_PERCENT) {
+            let short = &words[..self.random.pick(&[0, port::MESSAGE_WORDS - 1])];
+            let book = self.books.get_mut(&call.book)?;
+            book.refuses_short(&call.lent, port::BLOCK_WORDS, |state, rows, segments| {
+                port::apply(state, rows, segments, short)
+            });
+            self.cases.add("apply", "message short");
+        }
+        let answer = self.lend(call, |state, rows, segments| {
+            port::apply(state, rows, segments, &words)
+        })?;
+        Some(applied(answer, self.books[&call.book].status()))
     }
 
     /// None if a slot that the call names is empty.
@@ -52,37 +111,47 @@ impl Ported {
             self.books.insert(call.book, Book::create(&call.act)?);
             return Some(Reply::new(0, Values::Nothing));
         }
-        if reads::asks(&call.act) {
-            return self.reads.reply(&self.books, call);
+        if let Some(book) = self.books.get_mut(&call.book)
+            && self.random.chance(50)
+        {
+            forms::scatter(&mut book.block, &mut self.random);
         }
-        let book = self.books.get_mut(&call.book)?;
-        Some(match &call.act {
+        if reads::asks(&call.act) {
+            return self.reads.reply(&self.books, call, &mut self.cases);
+        }
+        match &call.act {
             Act::Bootstrap { piece } => {
-                let number = book.lend(&call.lent, |state, rows, segments| {
+                let number = self.lend(call, |state, rows, segments| {
                     port::bootstrap(state, rows, segments, piece)
-                });
-                Reply::new(number, Values::Nothing)
+                })?;
+                Some(Reply::new(number, Values::Nothing))
             }
-            Act::Apply { piece } => {
-                let Ok(message) = shape_message(piece) else {
+            Act::Apply { piece } => match shape_message(piece) {
+                Ok(message) => self.apply(call, &message),
+                Err(_) => {
                     // No value to apply: the reader says so.
+                    self.books.get(&call.book)?;
                     let mut out = [0; port::MESSAGE_WORDS];
-                    return Some(Reply::new(
-                        port::read_message(piece, &mut out),
-                        Values::Nothing,
-                    ));
-                };
-                let words = message_words(&message);
-                let answer = book.lend(&call.lent, |state, rows, segments| {
-                    port::apply(state, rows, segments, &words)
-                });
-                applied(answer, book.status())
-            }
+                    let number = port::read_message(piece, &mut out);
+                    Some(Reply::new(number, Values::Nothing))
+                }
+            },
             act => {
-                book.damage(act);
-                Reply::new(0, Values::Nothing)
+                self.books.get_mut(&call.book)?.damage(act);
+                Some(Reply::new(0, Values::Nothing))
             }
-        })
+        }
+    }
+}
+
+/// What an answer of `apply` or `bootstrap` may have done to the block: a refusal, but for its count, nothing.
+fn effect(act: &Act, answer: u64) -> Effect {
+    match (act, answer) {
+        (_, 0 | 16 | 256) => Effect::Sets,
+        (Act::Apply { .. }, 10) => Effect::Counts(10),
+        (Act::Apply { .. }, 17) => Effect::Counts(9),
+        (Act::Bootstrap { .. }, 10..=14) => Effect::Counts(11),
+        _ => Effect::Nothing,
     }
 }
 
@@ -143,7 +212,7 @@ pub struct Tally {
     pub numbers: BTreeMap<&'static str, BTreeMap<u8, u64>>,
     pub most_rows: u64,
     pub most_grown: u64,
-    pub cases: cases::Cases,
+    pub cases: Cases,
 }
 
 impl Tally {
@@ -251,7 +320,7 @@ impl Drop for Told<'_> {
 /// Runs the seed's stream on the port, the model and the Rust until `count` calls were made; all three must agree, the port and the model on every word.
 pub fn compare(seed: u64, count: u64) -> Result<Tally, String> {
     let mut generator = Generator::new(seed);
-    let (mut port, mut model) = (Ported::new(), Model::new());
+    let (mut port, mut model) = (Ported::new(seed), Model::new());
     let mut seen: BTreeMap<u8, Seen> = BTreeMap::new();
     let mut tally = Tally::default();
     while tally.calls < count {
@@ -281,6 +350,6 @@ pub fn compare(seed: u64, count: u64) -> Result<Tally, String> {
             tally.note(&call.act, said, seen.entry(call.book).or_default());
         }
     }
-    tally.cases = port.reads.cases;
+    tally.cases = port.cases;
     Ok(tally)
 }

@@ -1,5 +1,6 @@
 //! A book as a host keeps it: the state in a block of words, the rows, the segment records, and guard words behind each.
 
+use super::forms;
 use crate::call::{
     Act, Counts, Field, Invalidation, Lent, Memory, Rules, Segment, SegmentEnd, SizeDecrease,
     State, Status, digest_segments, digest_words, fresh_rows, fresh_segments,
@@ -13,8 +14,11 @@ const ROW: usize = 8;
 pub const GUARDS: usize = 4;
 pub const GUARD: u64 = 0xA5A5_5A5A_DEAD_BEEF;
 
+/// A state's words, and guards.
+pub type Block = [u64; port::BLOCK_WORDS + GUARDS];
+
 pub struct Book {
-    block: [u64; port::BLOCK_WORDS + GUARDS],
+    pub block: Block,
     rows: Vec<u64>,
     segments: Vec<u64>,
     /// The last sequence that the host knows: the block has it only while the book is valid.
@@ -24,7 +28,8 @@ pub struct Book {
 }
 
 /// Places in the block, as crate `host_words` documents them.
-mod at {
+pub mod at {
+    pub const DECREASE: usize = 2;
     pub const MAX_ORDERS: usize = 3;
     pub const NUMBER: usize = 5;
     pub const STATUS: usize = 6;
@@ -32,7 +37,6 @@ mod at {
     pub const OFFENDING: usize = 8;
     pub const KIND: usize = 9;
     pub const FIRST: usize = 10;
-    pub const SECOND: usize = 11;
     pub const DETAIL: usize = 12;
     pub const ROWS: usize = 13;
     pub const SEGMENTS: usize = 14;
@@ -83,6 +87,33 @@ fn record_of(words: &[u64]) -> Segment {
     }
 }
 
+/// Words 6 to 12 as a call writes them.
+fn status_words(status: Status, last_sequence: u64) -> [u64; at::ROWS - at::STATUS] {
+    match status {
+        Status::NoSnapshot => [0; 7],
+        Status::Valid => [1, last_sequence, 0, 0, 0, 0, 0],
+        Status::Invalid(why) => {
+            let (good, offending) = (why.last_good_seq, why.first_offending_seq);
+            let [first, second] = match why.reason {
+                20 => [good.wrapping_add(1), offending],
+                21 => [good, offending],
+                _ => [0; 2],
+            };
+            let (reason, detail) = (u64::from(why.reason), u64::from(why.funds));
+            [2, good, offending, reason, first, second, detail]
+        }
+    }
+}
+
+/// What a call may do to the block.
+pub enum Effect {
+    /// Sets status, rows, segments and counts.
+    Sets,
+    /// Adds one to this count.
+    Counts(usize),
+    Nothing,
+}
+
 impl Book {
     pub fn create(act: &Act) -> Option<Book> {
         let &Act::Create {
@@ -115,19 +146,19 @@ impl Book {
         (self.rows.len() - GUARDS).min(lent.rows as usize)
     }
 
-    /// Calls `function` with the block and the lent prefixes, and sees that the guards stand.
+    /// Calls `function` with the first words of the block and the lent prefixes, and sees that the guards stand.
     pub fn lend(
         &mut self,
         lent: &Lent,
+        state: usize,
         function: impl FnOnce(&mut [u64], &mut [u64], &mut [u64]) -> u64,
     ) -> u64 {
         self.last_shown = None;
-        let fixed = self.block[..at::STATUS].to_vec();
         let rows = self.lent_rows(lent);
         let records = (self.segments.len() - GUARDS) / RECORD;
         let segments = RECORD * records.min(lent.segments as usize);
         let answer = function(
-            &mut self.block[..port::BLOCK_WORDS],
+            &mut self.block[..state],
             &mut self.rows[..rows],
             &mut self.segments[..segments],
         );
@@ -137,50 +168,65 @@ impl Book {
                 "a guard word was touched"
             );
         }
-        assert!(
-            self.block.starts_with(&fixed),
-            "product, rules and number stay"
-        );
         if self.block[at::STATUS] == 1 {
             self.last_sequence = self.block[at::LAST];
         }
         answer
     }
 
+    /// Calls `function`, which is lent a slice of a fixed size short, and sees that it answers 7 and touches nothing.
+    pub fn refuses_short(
+        &mut self,
+        lent: &Lent,
+        state: usize,
+        function: impl FnOnce(&mut [u64], &mut [u64], &mut [u64]) -> u64,
+    ) {
+        let before = (self.block, self.rows.clone(), self.segments.clone());
+        assert_eq!(self.lend(lent, state, function), 7, "a slice is short");
+        assert!(before.0 == self.block, "a short slice leaves the block");
+        assert!(before.1 == self.rows, "a short slice leaves the rows");
+        assert!(before.2 == self.segments, "a short slice leaves the list");
+    }
+
+    /// Sees that a call left the block as it was, but for its effect. Which rows, segments and counts a status comes with is the model's to say.
+    pub fn check_block(&self, before: &Block, effect: Effect) {
+        let mut expected = *before;
+        match effect {
+            Effect::Sets => {
+                let status = status_words(self.status(), self.last_sequence);
+                expected[at::STATUS..at::ROWS].copy_from_slice(&status);
+                expected[at::ROWS..].copy_from_slice(&self.block[at::ROWS..]);
+            }
+            Effect::Counts(index) => {
+                let count = &mut expected[at::COUNTS + index];
+                *count = count.saturating_add(1);
+            }
+            Effect::Nothing => {}
+        }
+        assert_eq!(self.block, expected, "the block afterwards");
+    }
+
     pub fn status(&self) -> Status {
+        let reason = self.block[at::KIND];
         match self.block[at::STATUS] {
             0 => Status::NoSnapshot,
             1 => Status::Valid,
             _ => Status::Invalid(Invalidation {
                 last_good_seq: self.block[at::LAST],
                 first_offending_seq: self.block[at::OFFENDING],
-                reason: self.block[at::KIND] as u8,
-                funds: self.block[at::DETAIL] == 1,
+                reason: if forms::names_reason(reason) {
+                    reason as u8
+                } else {
+                    44
+                },
+                funds: reason == 38 && self.block[at::DETAIL] != 0,
             }),
         }
     }
 
     fn set_status(&mut self, status: Status) {
-        self.block[at::STATUS..at::ROWS].fill(0);
-        match status {
-            Status::NoSnapshot => {}
-            Status::Valid => {
-                self.block[at::STATUS] = 1;
-                self.block[at::LAST] = self.last_sequence;
-            }
-            Status::Invalid(why) => {
-                self.block[at::STATUS] = 2;
-                self.block[at::LAST] = why.last_good_seq;
-                self.block[at::OFFENDING] = why.first_offending_seq;
-                self.block[at::KIND] = u64::from(why.reason);
-                self.block[at::DETAIL] = u64::from(why.funds);
-                if why.reason < 22 {
-                    let gap = u64::from(why.reason == 20);
-                    self.block[at::FIRST] = why.last_good_seq.wrapping_add(gap);
-                    self.block[at::SECOND] = why.first_offending_seq;
-                }
-            }
-        }
+        let words = status_words(status, self.last_sequence);
+        self.block[at::STATUS..at::ROWS].copy_from_slice(&words);
     }
 
     pub fn damage(&mut self, act: &Act) {
@@ -303,12 +349,12 @@ impl Kept {
     }
 }
 
-fn fresh_block(product: &Product, rules: &Rules, number: u64) -> [u64; port::BLOCK_WORDS + GUARDS] {
+fn fresh_block(product: &Product, rules: &Rules, number: u64) -> Block {
     let mut block = [0; port::BLOCK_WORDS + GUARDS];
     block[port::BLOCK_WORDS..].fill(GUARD);
     let product = u128::from_be_bytes(*product);
     (block[0], block[1]) = ((product >> 64) as u64, product as u64);
-    block[2] = u64::from(rules.size_decrease == SizeDecrease::PriorityUnknown);
+    block[at::DECREASE] = u64::from(rules.size_decrease == SizeDecrease::PriorityUnknown);
     (block[3], block[4]) = (rules.max_orders, rules.max_levels);
     block[5] = number;
     block

@@ -1,13 +1,14 @@
-//! Which cases the reads of a run met, told from the port's own memory.
+//! Which cases the calls of a run met, told from the port's own memory.
 
 use std::collections::{BTreeMap, BTreeSet, HashMap};
 
 use super::book::Book;
+use super::forms;
 use super::reads::{Held, entry_words};
 use crate::call::{Act, Anchor, Assumption, CEILING, Estimate, Lent, Values};
 use crate::piece::{Id, Side};
 
-/// How often each case of each read was met.
+/// How often each case of each call was met.
 #[derive(Debug, Default)]
 pub struct Cases(BTreeMap<(&'static str, &'static str), u64>);
 
@@ -22,10 +23,11 @@ impl Cases {
         }
     }
 
-    /// Those of [`EXPECTED`] that were not met.
+    /// Those of [`EXPECTED`], and of each of its calls the forms of a state, that were not met.
     pub fn missing(&self) -> Vec<(&'static str, &'static str)> {
-        let all = EXPECTED.iter();
-        all.flat_map(|&(read, cases)| cases.iter().map(move |&case| (read, case)))
+        let forms = EXPECTED.iter().map(|&(call, _)| (call, forms::COMMON));
+        let all = EXPECTED.iter().copied().chain(forms);
+        all.flat_map(|(call, cases)| cases.iter().map(move |&case| (call, case)))
             .filter(|case| !self.0.contains_key(case))
             .collect()
     }
@@ -33,6 +35,8 @@ impl Cases {
 
 /// What every run must meet.
 pub const EXPECTED: &[(&str, &[&str])] = &[
+    ("apply", APPLY),
+    ("bootstrap", BOOTSTRAP),
     ("last_sequence", &["state short", "fixed output short"]),
     ("best", &["state short", "fixed output short"]),
     ("audit", &["state short"]),
@@ -45,6 +49,45 @@ pub const EXPECTED: &[(&str, &[&str])] = &[
     ("queue_estimate_own", &["state short", "fixed output short"]),
     ("volume_ahead", VOLUME_AHEAD),
 ];
+
+const APPLY: &[&str] = &[
+    "state short",
+    "message short",
+    "another form of a message",
+    "detail above 1",
+    "accepted in another form",
+    "invalidated in another form",
+    "10 in another form",
+    "17 in another form",
+    "refused in another form",
+];
+
+const BOOTSTRAP: &[&str] = &[
+    "state short",
+    "detail above 1",
+    "accepted in another form",
+    "10 in another form",
+    "11 in another form",
+    "12 in another form",
+    "13 in another form",
+    "14 in another form",
+    "refused in another form",
+];
+
+/// What a call answered that was lent another form of its state.
+pub fn outcome(answer: u64) -> &'static str {
+    match answer {
+        0 | 256 => "accepted in another form",
+        10 => "10 in another form",
+        11 => "11 in another form",
+        12 => "12 in another form",
+        13 => "13 in another form",
+        14 => "14 in another form",
+        16 => "invalidated in another form",
+        17 => "17 in another form",
+        _ => "refused in another form",
+    }
+}
 
 const LEVELS: &[&str] = &[
     "state short",

@@ -3,9 +3,9 @@
 
 use std::collections::BTreeMap;
 
-use super::Reply;
 use super::book::{Book, GUARD, GUARDS, Kept};
 use super::cases::{Cases, Read};
+use super::{Reply, forms};
 use crate::call::{
     AHEAD_SEED, Act, Ahead, Anchor, Assumption, Buffers, Call, Estimate, Left, Lent, OUTPUT_SEED,
     SCRATCH_SEED, SegmentName, Status, Values, fresh_words, left,
@@ -29,7 +29,6 @@ pub struct Held {
 pub struct Reads {
     estimates: BTreeMap<u8, Held>,
     calls: u64,
-    pub cases: Cases,
 }
 
 /// Whether it is one of the calls dealt with here.
@@ -388,7 +387,12 @@ const NOT_ZERO: [u64; 4] = [1, 2, u64::MAX, 1 << 63];
 
 impl Reads {
     /// None if a slot that the call names is empty.
-    pub fn reply(&mut self, books: &BTreeMap<u8, Book>, call: &Call) -> Option<Reply> {
+    pub fn reply(
+        &mut self,
+        books: &BTreeMap<u8, Book>,
+        call: &Call,
+        cases: &mut Cases,
+    ) -> Option<Reply> {
         self.calls += 1;
         match &call.act {
             Act::ForgeEstimate {
@@ -407,7 +411,7 @@ impl Reads {
                 }
                 Some(Reply::new(0, Values::Nothing))
             }
-            _ => self.asked(books.get(&call.book)?, call),
+            _ => self.asked(books.get(&call.book)?, call, cases),
         }
     }
 
@@ -424,7 +428,7 @@ impl Reads {
         }
     }
 
-    fn asked(&mut self, book: &Book, call: &Call) -> Option<Reply> {
+    fn asked(&mut self, book: &Book, call: &Call, cases: &mut Cases) -> Option<Reply> {
         let act = &call.act;
         let held = match act {
             Act::VolumeAhead { slot } => Some(self.estimates.get(slot)?),
@@ -440,9 +444,12 @@ impl Reads {
         if self.calls.is_multiple_of(SHORT_PERIOD)
             && let Some(case) = asked.short(self.calls / SHORT_PERIOD)
         {
-            self.cases.add(act.name(), case);
+            cases.add(act.name(), case);
         }
-        let (reply, made) = asked.reply(self.calls, &mut self.cases);
+        for form in forms::of(&book.block) {
+            cases.add(act.name(), form);
+        }
+        let (reply, made) = asked.reply(self.calls, cases);
         if let (Act::QueueEstimate { slot, .. } | Act::QueueEstimateOwn { slot, .. }, Some(made)) =
             (act, made)
         {
