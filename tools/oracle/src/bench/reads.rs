@@ -110,6 +110,22 @@ impl Both {
         [ours, theirs]
     }
 
+    fn l2(&self, calls: usize) -> [f64; 2] {
+        let Ours { block, rows, .. } = &self.ours;
+        let (mut scratch, mut out, mut count) = (vec![0; 4_096], vec![0; 2 * 4_096], [0]);
+        let ours = best(calls, || {
+            let rows = black_box(&rows[..]);
+            let answer = reads::l2(block, rows, &mut scratch, BUY, &mut out, &mut count);
+            assert_eq!(answer, 0);
+            black_box(&out);
+        });
+        let theirs = best(calls, || {
+            let levels = black_box(&self.theirs).l2(convert::side(Side::Buy));
+            assert!(black_box(levels).is_ok());
+        });
+        [ours, theirs]
+    }
+
     fn level_queue(&self, calls: usize) -> [f64; 2] {
         let Ours { block, rows, .. } = &self.ours;
         let (mut scratch, mut out, mut count) = (vec![0; 4_096], vec![0; 5 * 4_096], [0]);
@@ -166,6 +182,7 @@ pub fn run() {
         }
     };
     table("`priority_profile`", Both::priority_profile);
+    table("`l2`", Both::l2);
     table("`level_queue`", Both::level_queue);
     table("`volume_ahead`, hypothetical", |both, calls| {
         both.volume_ahead(calls, &both.hypothetical())
