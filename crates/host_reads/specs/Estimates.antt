@@ -4,6 +4,8 @@ use mathlib.Core.Bool.{Bool, true, false, cond}
 use mathlib.Core.List.{List, [], _∷_}
 use lib.Dec.{eqb}
 use lib.ListN.{getD}
+use mir.Syntax.{w64}
+use mir.Val.{toZ, ofZ}
 use Rattle.piece.specs.Piece.{sideOf}
 use Rattle.piece.specs.Encode.{sideByte}
 use Rattle.book_levels.specs.Levels.{written}
@@ -23,7 +25,7 @@ use Rattle.host_reads.specs.Answers.{Answered, answered}
 
 -- ---- An estimate: eight words
 --   0     side: 0 buy, else sell
---   1     price
+--   1     price, an amount's 64 bits
 --   2, 3  its segment's name: the reconstructor's number, and the place in the list
 --   4     anchor: 0 hypothetical, else own
 --   5..7  of a hypothetical order the number of orders in the ahead-list, created_at, and a word that does not matter (0 when written); of an own order its id,
@@ -38,7 +40,7 @@ unfoldable pub estimateOf : List ℕ → QueueEstimate
 estimateOf ws =
     record {
       side = sideOf (getD ws 0 0);
-      price = getD ws 1 0;
+      price = toZ w64 (getD ws 1 0);
       segment = record { number = getD ws 2 0; place = getD ws 3 0 };
       anchor = anchorOf ws;
     }
@@ -50,7 +52,7 @@ anchorWords (Own d entered) = record { kind = 1; first = d .high; second = d .lo
 abbrev pub estimateWords : QueueEstimate → List ℕ
 estimateWords q =
     sideByte (q .side) ∷
-    q .price ∷
+    ofZ w64 (q .price) ∷
     q .segment .number ∷
     q .segment .place ∷
     anchorWords (q .anchor) .kind ∷

@@ -1,9 +1,11 @@
 // The answers of the reads as numbers and words, and estimates as words. specs/Answers.antt and specs/Estimates.antt have the layouts.
 use book::BestPrice;
 use book_valid::AuditAnswer;
+use host_words::bits;
 use host_words::load_side;
 use host_words::put;
 use host_words::side_word;
+use host_words::signed;
 use message::OrderId;
 use queue::AheadAnswer;
 use queue::Anchor;
@@ -154,7 +156,7 @@ pub fn load_estimate(words: &[u64]) -> QueueEstimate
 {
     QueueEstimate {
         side: load_side(words[0]),
-        price: words[1],
+        price: signed(words[1]),
         segment: SegmentName {
             number: words[2],
             place: words[3] as usize,
@@ -201,13 +203,14 @@ fn put_estimate(out: &mut [u64], estimate: QueueEstimate)
     let segment = estimate.segment;
     let anchor = estimate.anchor;
     let first = side_word(side);
+    let price = bits(estimate.price);
     let last = anchor_words(anchor);
     put(
         out,
         0,
         &[
             first,
-            estimate.price,
+            price,
             segment.number,
             segment.place as u64,
             last.kind,

@@ -122,6 +122,9 @@ before-few d (o ∷ os) = go (sameId (idOf o) d) (before-few d os)
 pub size-most : (o : Resting) → rowBroken o ≡ false → o .remaining ≤ amountLimit
 size-most o h = sound-row o h .remaining .high
 
+pub price-most : (o : Resting) → rowBroken o ≡ false → o .price ≤ amountLimit
+price-most o h = sound-row o h .price .high
+
 -- what an order adds to either sum
 pub part-most : (o : Resting) → (cond (ltb (o .kind) 2) (o .remaining) 0 ≤ o .remaining) × (cond (ltb (o .kind) 2) 0 (o .remaining) ≤ o .remaining)
 part-most o = go (ltb (o .kind) 2)

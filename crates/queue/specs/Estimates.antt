@@ -4,7 +4,7 @@ use mathlib.Core.Bool.{Bool, true, false, not, _||_, _&&_, cond}
 use mathlib.Core.List.{List, [], _∷_}
 use mathlib.Core.Option.{Option, none, some}
 use lib.Dec.{eqb, ltb}
-use lib.IntN.{ℤ}
+use lib.IntN.{ℤ, pos}
 use lib.ListN.{length}
 use Rattle.message.specs.declared.L3Side.{L3Side}
 use Rattle.message.specs.declared.OrderId.{OrderId}
@@ -68,13 +68,13 @@ abbrev pub estimateLeaves : EstimateAnswer → List ℕ → EstimateParts
 estimateLeaves a l = record { answer = a; ahead = l }
 
 -- a hypothetical order created now, behind the orders that rest there
-abbrev pub hypothetical : BookReconstructor → L3Side → ℕ → List Resting → QueueEstimate
-hypothetical b s p os =
+abbrev pub hypothetical : BookReconstructor → L3Side → ℤ → List Resting → QueueEstimate
+hypothetical b s z os =
     record {
       side = s;
-      price = p;
+      price = z;
       segment = segmentOf b;
-      anchor = Hypothetical (length (rowsAt s p os)) (lastOf (b .status));
+      anchor = Hypothetical (length (rowsAt s (natOf z) os)) (lastOf (b .status));
     }
 
 -- 7: "output too small, the list `queue_estimate` writes included"
@@ -87,19 +87,19 @@ unfoldable pub estimated : Option QueueError → EstimateParts → List ℕ → 
 estimated (some e) p l = estimateLeaves (estimates.Refused e) l
 estimated none p l = p
 
--- a price that is not above zero is 0 here, which no row has
+-- a price that is not above zero is worked as 0, which no row has
 abbrev pub queueEstimate : ℕ → BookReconstructor → List ℕ → L3Side → ℤ → List ℕ → EstimateParts
 queueEstimate top b ws s z l =
     estimated (first (bookView top b ws false) errors.View none)
-    (listed (hypothetical b s (natOf z) (rowsOf ws (b .rows))) (entriesWords Ahead (rowsAt s (natOf z) (rowsOf ws (b .rows)))) l)
+    (listed (hypothetical b s z (rowsOf ws (b .rows))) (entriesWords Ahead (rowsAt s (natOf z) (rowsOf ws (b .rows)))) l)
     l
 
 -- ---- queue_estimate_own
 
 abbrev pub ownAnchor : BookReconstructor → OrderId → Option Resting → QueueEstimate
-ownAnchor b d none = record { side = sideOf 0; price = 0; segment = segmentOf b; anchor = Own d 0 }
+ownAnchor b d none = record { side = sideOf 0; price = pos 0; segment = segmentOf b; anchor = Own d 0 }
 ownAnchor b d (some o) =
-    record { side = sideOf (o .kind); price = o .price; segment = segmentOf b; anchor = Own d (o .«entered_at») }
+    record { side = sideOf (o .kind); price = pos (o .price); segment = segmentOf b; anchor = Own d (o .«entered_at») }
 
 unfoldable pub ownEstimated : Option QueueError → QueueEstimate → EstimateAnswer
 ownEstimated (some e) q = estimates.Refused e
@@ -163,7 +163,7 @@ ownAhead rule at s p d t os =
 
 abbrev pub anchorAhead : BookReconstructor → QueueEstimate → Anchor → List ℕ → List Resting → AheadAnswer
 anchorAhead b q (Hypothetical k t) l os = listAhead (b .rules .«size_decrease») (lastOf (b .status)) k t l os
-anchorAhead b q (Own d t) l os = ownAhead (b .rules .«size_decrease») (lastOf (b .status)) (q .side) (q .price) d t os
+anchorAhead b q (Own d t) l os = ownAhead (b .rules .«size_decrease») (lastOf (b .status)) (q .side) (natOf (q .price)) d t os
 
 abbrev pub volumeAhead : ℕ → BookReconstructor → List ℕ → QueueEstimate → List ℕ → AheadAnswer
 volumeAhead top b ws q l =

@@ -60,7 +60,7 @@ pub enum Anchor {
 // A handle on the volume ahead of one order, read by `volume_ahead`. It is the caller's memory: any contents are answered.
 pub struct QueueEstimate {
     pub side: L3Side,
-    pub price: u64,
+    pub price: i64,
     pub segment: SegmentName,
     pub anchor: Anchor,
 }
@@ -357,7 +357,7 @@ pub fn queue_estimate(
             book_queue::write_orders(rows, n, side, at, EntryForm::Ahead, ahead);
             EstimateAnswer::Estimate(QueueEstimate {
                 side,
-                price: at,
+                price,
                 segment: segment_of(book),
                 anchor: Anchor::Hypothetical {
                     orders: count,
@@ -370,11 +370,12 @@ pub fn queue_estimate(
 
 // Our own order, as an estimate.
 fn own_estimate(book: BookReconstructor, id: OrderId, o: Resting) -> QueueEstimate
+    requires { ⌜ o .price ≤ amountLimit ⌝ }
     ensures { λ r. ⌜ r ≡ ownAnchor book id (some o) ⌝ }
 {
     QueueEstimate {
         side: book::side_of(o.kind),
-        price: o.price,
+        price: o.price as i64,
         segment: segment_of(book),
         anchor: Anchor::Own {
             order_id: id,
@@ -497,6 +498,7 @@ pub fn volume_ahead(
         Viewed::Valid { last_seq } => last_seq,
     };
     let side = estimate.side;
+    let at = message::amount::size_of(estimate.price);
     let anchor = estimate.anchor;
     match anchor {
         Anchor::Hypothetical { orders, created_at } => {
@@ -515,15 +517,7 @@ pub fn volume_ahead(
             if is_stale(book, estimate) {
                 return AheadAnswer::Refused(QueueError::StaleEstimate);
             }
-            ahead_of_own(
-                book,
-                rows,
-                side,
-                estimate.price,
-                order_id,
-                entered_at,
-                last_seq,
-            )
+            ahead_of_own(book, rows, side, at, order_id, entered_at, last_seq)
         }
     }
 }

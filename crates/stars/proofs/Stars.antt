@@ -236,7 +236,7 @@ auditNumber (audits.Refused e) = viewErrorNumber e
 
 -- a hypothetical order's estimate on E, with one order ahead, of a segment's place
 abbrev guess : ℕ → QueueEstimate
-guess place = record { side = Buy; price = 10; segment = record { number = 1; place = place }; anchor = Hypothetical 1 100 }
+guess place = record { side = Buy; price = pos 10; segment = record { number = 1; place = place }; anchor = Hypothetical 1 100 }
 
 abbrev reads : List ℕ
 reads =

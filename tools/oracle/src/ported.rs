@@ -9,9 +9,7 @@ mod reads;
 
 use std::collections::BTreeMap;
 
-use crate::call::{
-    Act, Anchor, Answer, Applied, Buffers, Call, Said, Status, Subject, Values, Voice,
-};
+use crate::call::{Act, Answer, Applied, Buffers, Call, Said, Status, Subject, Values, Voice};
 use crate::generate::Generator;
 use crate::generate::random::Random;
 use crate::model::Model;
@@ -291,21 +289,6 @@ fn take_levels(ours: &mut Answer, judged: &Answer) {
     }
 }
 
-/// A listed difference: a hypothetical estimate at a price below zero holds the price 0, the Rust's the one that was asked.
-fn take_price(ours: &mut Answer, judged: &Answer) {
-    if let (Answer::Said(ours), Answer::Said(judged)) = (ours, judged)
-        && let (
-            Values::Estimate { estimate: ours, .. },
-            Values::Estimate {
-                estimate: judged, ..
-            },
-        ) = (&mut ours.values, &judged.values)
-        && let (0, ..0, Anchor::Hypothetical { .. }) = (ours.price, judged.price, judged.anchor)
-    {
-        ours.price = judged.price;
-    }
-}
-
 /// Tells the call where a guard or a lent word was touched, which panics.
 struct Told<'a>(u64, &'a Call);
 
@@ -338,7 +321,6 @@ pub fn compare(seed: u64, count: u64) -> Result<Tally, String> {
         let (mut ours, judged) = (port.call(&call), model.call(&call));
         drop(told);
         take_levels(&mut ours, &judged);
-        take_price(&mut ours, &judged);
         if !ours.agrees(&judged) || !theirs.agrees(&ours) {
             return Err(format!(
                 "seed {seed}, call {}: {call}\nport  {ours}\nmodel {judged}\nrust  {theirs}",

@@ -1,4 +1,4 @@
-//! The port at work on a small example: 01's book E, read piece by piece.
+//! The port at work on a small example: 01's book E, read piece by piece, and the desk's figure on it: the volume ahead of an order, with its sequence number.
 
 use crate::piece::{
     DoneReason, Event, Message, Product, Side, Snapshot, SnapshotOrder, encode_message,
@@ -59,6 +59,71 @@ fn order(id: u128, price: i64, size: i64) -> SnapshotOrder {
     SnapshotOrder { id, price, size }
 }
 
+/// A book as a host keeps it: state words, rows for three orders, one segment record.
+struct Board {
+    state: [u64; port::BLOCK_WORDS],
+    rows: [u64; 24],
+    segments: [u64; 8],
+}
+
+impl Board {
+    fn new() -> Board {
+        let half = |at: usize| u64::from_be_bytes(std::array::from_fn(|i| PRODUCT[at + i]));
+        let mut state = [0; port::BLOCK_WORDS];
+        (state[0], state[1]) = (half(0), half(8));
+        // At most three orders and three levels; the reconstructor's number is 1.
+        (state[3], state[4], state[5]) = (3, 3, 1);
+        let (rows, segments) = ([0; 24], [0; 8]);
+        Board {
+            state,
+            rows,
+            segments,
+        }
+    }
+
+    fn take(&mut self, piece: &[u8]) -> u64 {
+        let (state, rows, segments) = (&mut self.state, &mut self.rows, &mut self.segments);
+        if piece[0] == 0 {
+            return port::bootstrap(state, rows, segments, piece);
+        }
+        let mut words = [0; port::MESSAGE_WORDS];
+        assert_eq!(port::read_message(piece, &mut words), 0);
+        port::apply(state, rows, segments, &words)
+    }
+
+    /// The volume ahead of an own order.
+    fn ahead(&self, id: u128) {
+        let mut estimate = [0; port::reads::ESTIMATE_WORDS];
+        let number = port::reads::queue_estimate_own(&self.state, &self.rows, id, &mut estimate);
+        if number != 0 {
+            println!("  ahead   no figure: {number}");
+            return;
+        }
+        let mut out = [0; port::reads::AHEAD_WORDS];
+        port::reads::volume_ahead(&self.state, &self.rows, &estimate, &[], &mut out);
+        let [at, volume, snapshot, observed, orders, ..] = out;
+        println!(
+            "  ahead   {volume} ({snapshot} from the snapshot, {observed} observed, {orders} orders), read at {at}"
+        );
+    }
+}
+
+/// The desk's story: C waits behind A; the line re-sends a match, and the board shows no figure rather than a wrong one.
+fn story(snapshot: &[u8], open: &[u8], matched: &[u8]) {
+    let mut board = Board::new();
+    for (what, piece) in [
+        ("the book takes the snapshot", snapshot),
+        ("and the open of our order C", open),
+        ("and the match of A", matched),
+        ("and the same match, sent again", matched),
+    ] {
+        let number = board.take(piece);
+        println!("{what}: {number}");
+        board.ahead(C);
+    }
+    println!("  reason  {}", board.state[9]);
+}
+
 pub fn run() {
     let snapshot = encode_snapshot(&Snapshot {
         product: PRODUCT,
@@ -76,7 +141,8 @@ pub fn run() {
         price: 10,
         remaining: 5,
     };
-    show("101: open C buy 10 size 5", &message(101, open));
+    let open = message(101, open);
+    show("101: open C buy 10 size 5", &open);
     let matched = Event::Match {
         maker_id: A,
         taker_id: Z,
@@ -84,7 +150,8 @@ pub fn run() {
         price: 10,
         size: 2,
     };
-    show("102: match A size 2, taker Z", &message(102, matched));
+    let matched = message(102, matched);
+    show("102: match A size 2, taker Z", &matched);
     let done = Event::Done {
         order_id: Z,
         side: Side::Sell,
@@ -110,4 +177,5 @@ pub fn run() {
         "the same piece, one byte short: 4",
         &message(104, wide)[..65],
     );
+    story(&snapshot, &open, &matched);
 }

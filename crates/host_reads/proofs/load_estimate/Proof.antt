@@ -1,4 +1,5 @@
 use Rattle.host_reads.specs.Estimates.{estimateOf}
+use Rattle.message.proofs.Signed.{back}
 use borrow.Author.Needs.{needs}
 use Rattle.host_reads.proofs.load_estimate.Statement.{statement}
 use Rattle.host_reads.proofs.load_estimate.Tie as tie
@@ -6,8 +7,9 @@ use Rattle.host_reads.proofs.load_estimate.Tie as tie
 returns : tie.Need-returns
 unfolding estimateOf
 returns c =
-    let k-load-side = c .before .before .before .before in
-    rw (k-load-side .load-side .ensures, c .load-anchor .ensures)
+    let k-signed = c .before .before .before in
+    let k-load-side = k-signed .before .before in
+    rw (k-load-side .load-side .ensures, c .load-anchor .ensures, back (k-signed .signed .result) (k-signed .signed .ok), k-signed .signed .ensures)
 
 pub load-estimate-spec : {M : Type 1} → statement M
 load-estimate-spec =
@@ -16,6 +18,7 @@ load-estimate-spec =
     (λ c. search needs)
     (λ c κs. search needs)
     (λ c. search needs)
+    (λ c κs. search needs)
     (λ c. search needs)
     (λ c. search needs)
     (λ c κs. search needs)

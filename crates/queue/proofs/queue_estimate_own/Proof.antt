@@ -1,7 +1,8 @@
 use Rattle.reconstructor_state.specs.Checks.{check, first}
 use Rattle.queue.specs.Estimates.{ownRefusal, ownEstimated}
+use Rattle.queue.proofs.Ahead.{with-sound, price-most}
 use mathlib.Core.Bool.{false}
-use Rattle.book.specs.Rows.{ceiling}
+use Rattle.book.specs.Rows.{ceiling, rowsOf}
 use Rattle.reconstructor_state.specs.State.{lastOf}
 use Rattle.reconstructor_view.specs.View.{bookView}
 use Rattle.reconstructor_view.proofs.View.{view-refused, view-valid, valid-read, read-lent}
@@ -31,6 +32,15 @@ returns-2 c =
     let k-valid-book = k-enum-told .before .before in
     let k-start = k-valid-book .before .before .before in
     let v = view-valid (bookView ceiling (k-start .args .book) (k-start .args .rows .now) false) (lastOf (k-start .args .book .status)) _ _ (k-valid-book .valid-book .ensures) (k-enum-told .enum-told .given .1) in let w = rw (k-o .o .given .1) at (k-resting .resting .ensures) in rw (v .0, w, ← c .before .place-unknown .ensures, c .if1 .taken)
+
+own-estimate-requires : tie.Need-own-estimate-requires
+own-estimate-requires c κs =
+    let k-o = c .before .before .before in
+    let k-resting = k-o .before .before in
+    let k-enum-told = k-resting .before in
+    let k-valid-book = k-enum-told .before .before in
+    let k-start = k-valid-book .before .before .before in
+    let v = view-valid (bookView ceiling (k-start .args .book) (k-start .args .rows .now) false) (lastOf (k-start .args .book .status)) _ _ (k-valid-book .valid-book .ensures) (k-enum-told .enum-told .given .1) in let w = rw (k-o .o .given .1) at (k-resting .resting .ensures) in let r = valid-read (k-start .args .book) (k-start .args .rows .now) false (v .0) .0 in price-most _ (with-sound (k-start .args .order-id) (rowsOf (k-start .args .rows .now) (k-start .args .book .rows)) _ (r .sound .formed .sound) w)
 
 returns-3 : tie.Need-returns-3
 unfolding ownRefusal ownEstimated check first
@@ -62,6 +72,6 @@ queue-estimate-own-spec =
     returns
     (λ c κs. search needs)
     returns-2
-    (λ c κs. search needs)
+    own-estimate-requires
     returns-3
     returns-4)
