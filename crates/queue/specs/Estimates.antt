@@ -21,6 +21,7 @@ use Rattle.reconstructor_state.specs.declared.BookReconstructor.{BookReconstruc
 use Rattle.reconstructor_state.specs.Checks.{check, first}
 use Rattle.reconstructor_segments.specs.Segments.{sameSegment}
 use Rattle.reconstructor_state.specs.State.{lastOf}
+use Rattle.reconstructor_view.specs.declared.ViewError.{ViewError}
 use Rattle.reconstructor_view.specs.View.{bookView}
 use Rattle.queue.specs.declared.Assumption.{Assumption}
 use Rattle.queue.specs.declared.Assumption.the-variants as hypotheses
@@ -52,11 +53,6 @@ losesPlace PriorityUnknown = true
 abbrev pub placeUnknown : SizeDecrease → Resting → Bool
 placeUnknown rule o = ltb (o .kind) 2 || (not (eqb (o .decreased) 0) && losesPlace rule)
 
--- 52, then 51, of the own order, if it rests
-unfoldable pub ownRefusal : SizeDecrease → Option Resting → Option QueueError
-ownRefusal rule none = some errors.NotResting
-ownRefusal rule (some o) = check (placeUnknown rule o) errors.PriorityUnknown none
-
 -- ---- queue_estimate
 
 -- the answer, and the ahead-list afterwards
@@ -83,32 +79,35 @@ listed e words l =
     cond (ltb (length l) (length words)) (estimateLeaves (estimates.Refused errors.OutputTooSmall) l)
     (estimateLeaves (estimates.Estimate e) (written words l))
 
-unfoldable pub estimated : Option QueueError → EstimateParts → List ℕ → EstimateParts
-estimated (some e) p l = estimateLeaves (estimates.Refused e) l
+unfoldable pub estimated : Option ViewError → EstimateParts → List ℕ → EstimateParts
+estimated (some e) p l = estimateLeaves (estimates.Refused (errors.View e)) l
 estimated none p l = p
 
 -- a price that is not above zero is worked as 0, which no row has
 abbrev pub queueEstimate : ℕ → BookReconstructor → List ℕ → L3Side → ℤ → List ℕ → EstimateParts
 queueEstimate top b ws s z l =
-    estimated (first (bookView top b ws false) errors.View none)
+    estimated (bookView top b ws false)
     (listed (hypothetical b s z (rowsOf ws (b .rows))) (entriesWords Ahead (rowsAt s (natOf z) (rowsOf ws (b .rows)))) l)
     l
 
 -- ---- queue_estimate_own
 
-abbrev pub ownAnchor : BookReconstructor → OrderId → Option Resting → QueueEstimate
-ownAnchor b d none = record { side = sideOf 0; price = pos 0; segment = segmentOf b; anchor = Own d 0 }
-ownAnchor b d (some o) =
+abbrev pub ownEstimate : BookReconstructor → OrderId → Resting → QueueEstimate
+ownEstimate b d o =
     record { side = sideOf (o .kind); price = pos (o .price); segment = segmentOf b; anchor = Own d (o .«entered_at») }
 
-unfoldable pub ownEstimated : Option QueueError → QueueEstimate → EstimateAnswer
-ownEstimated (some e) q = estimates.Refused e
-ownEstimated none q = estimates.Estimate q
+-- 52: "own id not resting"; then 51
+abbrev pub ownEstimated : BookReconstructor → OrderId → Option Resting → EstimateAnswer
+ownEstimated b d none = estimates.Refused errors.NotResting
+ownEstimated b d (some o) =
+    cond (placeUnknown (b .rules .«size_decrease») o) (estimates.Refused errors.PriorityUnknown) (estimates.Estimate (ownEstimate b d o))
+
+unfoldable pub ownViewed : Option ViewError → EstimateAnswer → EstimateAnswer
+ownViewed (some e) a = estimates.Refused (errors.View e)
+ownViewed none a = a
 
 abbrev pub queueEstimateOwn : ℕ → BookReconstructor → List ℕ → OrderId → EstimateAnswer
-queueEstimateOwn top b ws d =
-    ownEstimated (first (bookView top b ws false) errors.View (ownRefusal (b .rules .«size_decrease») (rowWith d (rowsOf ws (b .rows)))))
-    (ownAnchor b d (rowWith d (rowsOf ws (b .rows))))
+queueEstimateOwn top b ws d = ownViewed (bookView top b ws false) (ownEstimated b d (rowWith d (rowsOf ws (b .rows))))
 
 -- ---- volume_ahead
 
@@ -145,21 +144,21 @@ unfoldable pub aheadOf : Option QueueError → AheadAnswer → AheadAnswer
 aheadOf (some e) a = answers.Refused e
 aheadOf none a = a
 
--- whether the order is marked decreased
-abbrev pub marked : Option Resting → Bool
-marked none = false
-marked (some o) = not (eqb (o .decreased) 0)
-
 -- ahead of a hypothetical order: the orders of the list that still rest
 abbrev pub listAhead : SizeDecrease → ℕ → ℕ → ℕ → List ℕ → List Resting → AheadAnswer
 listAhead rule at k t l os = tallied rule at hypotheses.BackOfVisibleQueueAtCreation false (tallyOf t (stillAhead os (entriesFrom l 0 k)))
 
--- ahead of an own order: 52, also "resting with another entered_at", and 51; then those that rest before it at the estimate's side and price. "The
--- estimate's sequence" is "an own order's entry"
+-- ahead of an own order, if it rests: 52, then 51
+abbrev pub ownTallied : SizeDecrease → ℕ → Option Resting → Tally → AheadAnswer
+ownTallied rule at none t = answers.Refused errors.NotResting
+ownTallied rule at (some o) t =
+    cond (placeUnknown rule o) (answers.Refused errors.PriorityUnknown)
+    (tallied rule at hypotheses.EntrySequenceIsPriority (not (eqb (o .decreased) 0)) t)
+
+-- 52, also of one "resting with another entered_at"; the orders that rest before it at the estimate's side and price. "The estimate's sequence" is "an own
+-- order's entry"
 abbrev pub ownAhead : SizeDecrease → ℕ → L3Side → ℕ → OrderId → ℕ → List Resting → AheadAnswer
-ownAhead rule at s p d t os =
-    aheadOf (ownRefusal rule (enteredAt t (rowWith d os)))
-    (tallied rule at hypotheses.EntrySequenceIsPriority (marked (enteredAt t (rowWith d os))) (tallyOf t (before d (rowsAt s p os))))
+ownAhead rule at s p d t os = ownTallied rule at (enteredAt t (rowWith d os)) (tallyOf t (before d (rowsAt s p os)))
 
 abbrev pub anchorAhead : BookReconstructor → QueueEstimate → Anchor → List ℕ → List Resting → AheadAnswer
 anchorAhead b q (Hypothetical k t) l os = listAhead (b .rules .«size_decrease») (lastOf (b .status)) k t l os

@@ -11,7 +11,6 @@ use reconstructor_view::ViewError;
 use reconstructor_view::Viewed;
 ghost use mathlib.Core.Path.{_≡_};
 ghost use mathlib.Core.Bool.{false, not, _||_, cond};
-ghost use mathlib.Core.Option.{some};
 ghost use Prim.Native.Nat.{_*_, _≤_};
 ghost use lib.Dec.{ltb};
 ghost use lib.ListN.{length};
@@ -24,7 +23,7 @@ ghost use Rattle.book_queue.specs.Queue.{rowsAt};
 ghost use Rattle.reconstructor_segments.specs.Segments.{sameSegment};
 ghost use Rattle.queue.specs.Ahead.{rowWith, enteredAt, entriesFrom, stillAhead, before, decreasedAfter, tallyOf};
 ghost use Rattle.queue.specs.Steps.{noTally, tallyWith, tallyJoined, Small, RestsFor};
-ghost use Rattle.queue.specs.Estimates.{segmentOf, losesPlace, placeUnknown, estimateLeaves, queueEstimate, ownAnchor, queueEstimateOwn, tallied, ownAhead, volumeAhead};
+ghost use Rattle.queue.specs.Estimates.{segmentOf, losesPlace, placeUnknown, estimateLeaves, queueEstimate, ownEstimate, queueEstimateOwn, tallied, ownAhead, volumeAhead};
 ghost use Rattle.queue.specs.Numbers.{queueErrorNumber, estimateNumber, aheadNumber};
 
 // A hypothesis a queue result rests on.
@@ -371,7 +370,7 @@ pub fn queue_estimate(
 // Our own order, as an estimate.
 fn own_estimate(book: BookReconstructor, id: OrderId, o: Resting) -> QueueEstimate
     requires { ⌜ o .price ≤ amountLimit ⌝ }
-    ensures { λ r. ⌜ r ≡ ownAnchor book id (some o) ⌝ }
+    ensures { λ r. ⌜ r ≡ ownEstimate book id o ⌝ }
 {
     QueueEstimate {
         side: book::side_of(o.kind),

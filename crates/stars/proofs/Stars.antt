@@ -58,7 +58,7 @@ use Rattle.queue.specs.declared.AheadAnswer.{AheadAnswer}
 use Rattle.queue.specs.declared.AheadAnswer.the-variants as queues
 use Rattle.queue.specs.Numbers.{estimateNumber, aheadNumber}
 use Rattle.queue.specs.Ahead.{entriesFrom}
-use Rattle.queue.specs.Estimates.{ownRefusal, ownEstimated, queueEstimateOwn, aheadRefusal, tallied, aheadOf, volumeAhead}
+use Rattle.queue.specs.Estimates.{ownViewed, queueEstimateOwn, aheadRefusal, tallied, aheadOf, volumeAhead}
 
 -- ---- E: "the book of product P, limits 3 and 3, snapshot at 100: buy A price 10 size 2, sell B price 12 size 3 (units)"
 
@@ -289,5 +289,5 @@ pub record Stars : Type 0 where
   pub c3-applied : after canceled .book .status ≡ Valid 101
 
 pub stars : Stars
-unfolding applied gated settled recorded accepted acceptedReply invalidatedReply refusedReply turnRefusal gateRefusal admitRefusal stateRefusal broken eventDeed counterOf effect eventRefusal sizeRefusal changeRefusal makerRefusal doneRefusal openRefusal check first saturated setSegment rowsFrom stored sideOf rowBroken inRange optionalInRange eventInRange differs givenDiffers absentOrDiffers sameId sameProduct viewRefusal readRefusal auditedOf shown levelRead ownRefusal ownEstimated aheadRefusal tallied aheadOf entriesFrom bootstrapped closed bootRefusal acceptRefusal snapshotRefusal lineRefusal readSnapshot snapshotShaped snapshotOf bidsAt asksAt ordersFrom orderAt orderFrom amountAt wordAt orderIdAt productIdAt part little big littleBytes bigBytes orderInRange ordersInRange
+unfolding applied gated settled recorded accepted acceptedReply invalidatedReply refusedReply turnRefusal gateRefusal admitRefusal stateRefusal broken eventDeed counterOf effect eventRefusal sizeRefusal changeRefusal makerRefusal doneRefusal openRefusal check first saturated setSegment rowsFrom stored sideOf rowBroken inRange optionalInRange eventInRange differs givenDiffers absentOrDiffers sameId sameProduct viewRefusal readRefusal auditedOf shown levelRead ownViewed aheadRefusal tallied aheadOf entriesFrom bootstrapped closed bootRefusal acceptRefusal snapshotRefusal lineRefusal readSnapshot snapshotShaped snapshotOf bidsAt asksAt ordersFrom orderAt orderFrom amountAt wordAt orderIdAt productIdAt part little big littleBytes bigBytes orderInRange ordersInRange
 stars = record { numbers = refl; loads = refl; reads = refl; c1 = refl; c2 = refl; c2-ahead = refl; c2-rows = refl; c2-list = refl; c3-rows = refl; c3-applied = refl }

@@ -1,22 +1,17 @@
-use Rattle.reconstructor_state.specs.Checks.{check}
-use Rattle.queue.specs.Estimates.{ownRefusal, aheadOf}
 use borrow.Author.Needs.{needs}
 use Rattle.queue.proofs.ahead_of_own.Statement.{statement}
 use Rattle.queue.proofs.ahead_of_own.Tie as tie
 
 returns : tie.Need-returns
-unfolding ownRefusal aheadOf check
 returns c = let w = rw (c .enum-told .given .1) at (c .before .before .resting-since .ensures) in rw w
 
 returns-2 : tie.Need-returns-2
-unfolding ownRefusal aheadOf check
 returns-2 c =
     let k-o = c .before .before .before in
     let k-resting-since = k-o .before .before in
     let w = rw (k-o .o .given .1) at (k-resting-since .resting-since .ensures) in rw (w, ← c .before .place-unknown .ensures, c .if1 .taken)
 
 returns-3 : tie.Need-returns-3
-unfolding ownRefusal aheadOf check
 returns-3 c =
     let k-if1 = c .before .before .before in
     let k-place-unknown = k-if1 .before in

@@ -1,4 +1,3 @@
-use Rattle.reconstructor_state.specs.Checks.{first}
 use mathlib.Core.Path.{_≡_, sym}
 use native.Mathlib.Omega.{arith}
 use borrow.Author.Tests.{lt-ltb, le-ltb}
@@ -32,7 +31,7 @@ mul-if1 c =
     let v = view-valid (bookView ceiling (k-start .args .book) (k-start .args .rows .now) false) (lastOf (k-start .args .book .status)) _ _ (k-valid-book .valid-book .ensures) (c .before .before .last-seq .given .1) in let r = valid-read (k-start .args .book) (k-start .args .rows .now) false (v .0) .0 in let l = read-lent (k-start .args .book) (k-start .args .rows .now) false r in record { fits = omega (arith, c .order-count .ensures, at-most (k-start .args .side) (k-size-of .size-of .result) (rowsOf (k-start .args .rows .now) (k-start .args .book .rows)), length-rows (k-start .args .rows .now) 0 (k-start .args .book .rows), l .few) }
 
 returns : tie.Need-returns
-unfolding estimated first
+unfolding estimated
 returns c =
     let k-last-seq = c .before .before .before in
     let k-valid-book = k-last-seq .before .before in
@@ -49,14 +48,14 @@ write-orders-requires c κs =
     let v = view-valid (bookView ceiling (k-start .args .book) (k-start .args .rows .now) false) (lastOf (k-start .args .book .status)) _ _ (k-valid-book .valid-book .ensures) (k-last-seq .last-seq .given .1) in let r = valid-read (k-start .args .book) (k-start .args .rows .now) false (v .0) .0 in (read-lent (k-start .args .book) (k-start .args .rows .now) false r, omega (arith, width-entries Ahead (rowsAt (k-start .args .side) (k-size-of .size-of .result) (rowsOf (k-start .args .rows .now) (k-start .args .book .rows))), c .before .before .order-count .ensures, c .before .if1 .left))
 
 returns-2 : tie.Need-returns-2
-unfolding estimated first
+unfolding estimated
 returns-2 c =
     let k-valid-book = c .before .before .before in
     let k-start = k-valid-book .before .before .before .before in
     rw (view-refused (bookView ceiling (k-start .args .book) (k-start .args .rows .now) false) (lastOf (k-start .args .book .status)) _ _ (k-valid-book .valid-book .ensures) (c .before .why .given .1))
 
 returns-3 : tie.Need-returns-3
-unfolding estimated first
+unfolding estimated
 returns-3 c =
     let k-write-orders = c .before .before .before in
     let k-if1 = k-write-orders .before .before in

@@ -1,5 +1,4 @@
-use Rattle.reconstructor_state.specs.Checks.{check, first}
-use Rattle.queue.specs.Estimates.{ownRefusal, ownEstimated}
+use Rattle.queue.specs.Estimates.{ownViewed}
 use Rattle.queue.proofs.Ahead.{with-sound, price-most}
 use mathlib.Core.Bool.{false}
 use Rattle.book.specs.Rows.{ceiling, rowsOf}
@@ -16,7 +15,7 @@ resting-requires c κs =
     let v = view-valid (bookView ceiling (k-start .args .book) (k-start .args .rows .now) false) (lastOf (k-start .args .book .status)) _ _ (c .before .before .valid-book .ensures) (c .enum-told .given .1) in let r = valid-read (k-start .args .book) (k-start .args .rows .now) false (v .0) .0 in read-lent (k-start .args .book) (k-start .args .rows .now) false r
 
 returns : tie.Need-returns
-unfolding ownRefusal ownEstimated check first
+unfolding ownViewed
 returns c =
     let k-enum-told = c .before .before .before in
     let k-valid-book = k-enum-told .before .before in
@@ -24,7 +23,7 @@ returns c =
     let v = view-valid (bookView ceiling (k-start .args .book) (k-start .args .rows .now) false) (lastOf (k-start .args .book .status)) _ _ (k-valid-book .valid-book .ensures) (k-enum-told .enum-told .given .1) in let w = rw (c .enum-told2 .given .1) at (c .before .before .resting .ensures) in rw (v .0, w)
 
 returns-2 : tie.Need-returns-2
-unfolding ownRefusal ownEstimated check first
+unfolding ownViewed
 returns-2 c =
     let k-o = c .before .before .before in
     let k-resting = k-o .before .before in
@@ -43,14 +42,14 @@ own-estimate-requires c κs =
     let v = view-valid (bookView ceiling (k-start .args .book) (k-start .args .rows .now) false) (lastOf (k-start .args .book .status)) _ _ (k-valid-book .valid-book .ensures) (k-enum-told .enum-told .given .1) in let w = rw (k-o .o .given .1) at (k-resting .resting .ensures) in let r = valid-read (k-start .args .book) (k-start .args .rows .now) false (v .0) .0 in price-most _ (with-sound (k-start .args .order-id) (rowsOf (k-start .args .rows .now) (k-start .args .book .rows)) _ (r .sound .formed .sound) w)
 
 returns-3 : tie.Need-returns-3
-unfolding ownRefusal ownEstimated check first
+unfolding ownViewed
 returns-3 c =
     let k-valid-book = c .before .before .before in
     let k-start = k-valid-book .before .before .before in
     rw (view-refused (bookView ceiling (k-start .args .book) (k-start .args .rows .now) false) (lastOf (k-start .args .book .status)) _ _ (k-valid-book .valid-book .ensures) (c .before .why .given .1))
 
 returns-4 : tie.Need-returns-4
-unfolding ownRefusal ownEstimated check first
+unfolding ownViewed
 returns-4 c =
     let k-o = c .before .before .before .before in
     let k-resting = k-o .before .before in
