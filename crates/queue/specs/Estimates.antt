@@ -16,11 +16,10 @@ use Rattle.book_queue.specs.declared.EntryForm.the-variants.{Ahead}
 use Rattle.book_queue.specs.Queue.{rowsAt, entriesWords}
 use Rattle.reconstructor_state.specs.declared.SizeDecrease.{SizeDecrease}
 use Rattle.reconstructor_state.specs.declared.SizeDecrease.the-variants.{KeepsPriority, PriorityUnknown}
-use Rattle.reconstructor_segments.specs.declared.SegmentName.{SegmentName}
 use Rattle.reconstructor_state.specs.declared.BookReconstructor.{BookReconstructor}
 use Rattle.reconstructor_state.specs.Checks.{check, first}
 use Rattle.reconstructor_segments.specs.Segments.{sameSegment}
-use Rattle.reconstructor_state.specs.State.{lastOf}
+use Rattle.reconstructor_state.specs.State.{lastOf, segmentOf}
 use Rattle.reconstructor_view.specs.declared.ViewError.{ViewError}
 use Rattle.reconstructor_view.specs.View.{bookView}
 use Rattle.queue.specs.declared.Assumption.{Assumption}
@@ -39,10 +38,6 @@ use Rattle.queue.specs.declared.Tally.{Tally}
 use Rattle.queue.specs.Ahead.{rowWith, enteredAt, entriesFrom, stillAhead, before, tallyOf}
 
 -- ---- parts
-
--- the book's own segment: "the reconstructor's number .. with its place in the list"
-abbrev pub segmentOf : BookReconstructor → SegmentName
-segmentOf b = record { number = b .number; place = b .segments - 1 }
 
 -- the rule under which a decrease loses an order its place
 abbrev pub losesPlace : SizeDecrease → Bool

@@ -21,9 +21,10 @@ ghost use Rattle.book.specs.Rows.{Lent, ceiling, rowsOf, sideOf, idOf};
 ghost use Rattle.book.specs.Broken.{someRowBroken};
 ghost use Rattle.book_queue.specs.Queue.{rowsAt};
 ghost use Rattle.reconstructor_segments.specs.Segments.{sameSegment};
+ghost use Rattle.reconstructor_state.specs.State.{segmentOf};
 ghost use Rattle.queue.specs.Ahead.{rowWith, enteredAt, entriesFrom, stillAhead, before, decreasedAfter, tallyOf};
 ghost use Rattle.queue.specs.Steps.{noTally, tallyWith, tallyJoined, Small, RestsFor};
-ghost use Rattle.queue.specs.Estimates.{segmentOf, losesPlace, placeUnknown, estimateLeaves, queueEstimate, ownEstimate, queueEstimateOwn, tallied, ownAhead, volumeAhead};
+ghost use Rattle.queue.specs.Estimates.{losesPlace, placeUnknown, estimateLeaves, queueEstimate, ownEstimate, queueEstimateOwn, tallied, ownAhead, volumeAhead};
 ghost use Rattle.queue.specs.Numbers.{queueErrorNumber, estimateNumber, aheadNumber};
 
 // A hypothesis a queue result rests on.
@@ -137,23 +138,6 @@ impl AheadAnswer {
             AheadAnswer::Ahead(_) => 0,
             AheadAnswer::Refused(why) => why.number(),
         }
-    }
-}
-
-// The name of the book's segment.
-fn segment_of(book: BookReconstructor) -> SegmentName
-    ensures { λ r. ⌜ r ≡ segmentOf book ⌝ }
-{
-    let count = book.segments;
-    if count == 0 {
-        return SegmentName {
-            number: book.number,
-            place: 0,
-        };
-    }
-    SegmentName {
-        number: book.number,
-        place: count - 1,
     }
 }
 
@@ -357,7 +341,7 @@ pub fn queue_estimate(
             EstimateAnswer::Estimate(QueueEstimate {
                 side,
                 price,
-                segment: segment_of(book),
+                segment: book.segment_name(),
                 anchor: Anchor::Hypothetical {
                     orders: count,
                     created_at: last_seq,
@@ -375,7 +359,7 @@ fn own_estimate(book: BookReconstructor, id: OrderId, o: Resting) -> QueueEstima
     QueueEstimate {
         side: book::side_of(o.kind),
         price: o.price as i64,
-        segment: segment_of(book),
+        segment: book.segment_name(),
         anchor: Anchor::Own {
             order_id: id,
             entered_at: o.entered_at,
@@ -479,7 +463,7 @@ fn is_stale(book: BookReconstructor, estimate: QueueEstimate) -> bool
     ensures { λ r. ⌜ r ≡ not (sameSegment (estimate .segment) (segmentOf book)) ⌝ }
 {
     let segment = estimate.segment;
-    !reconstructor_segments::same_segment(segment, segment_of(book))
+    !reconstructor_segments::same_segment(segment, book.segment_name())
 }
 
 // The volume now ahead of the estimate's order. Only the orders ahead count, each with its current size: their matches, cancels and decreases reduce it,

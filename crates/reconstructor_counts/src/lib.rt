@@ -37,7 +37,7 @@ pub enum Counter {
 }
 
 // One more, or the largest number.
-fn saturating_next(x: u64) -> u64
+pub fn saturating_next(x: u64) -> u64
     ensures { λ r. ⌜ r ≡ saturated x ⌝ }
 {
     if x < 18446744073709551615 { x + 1 } else { x }

@@ -12,6 +12,7 @@ use Rattle.reconstructor_state.specs.declared.Status.the-variants.{Empty
 use Rattle.reconstructor_counts.specs.declared.MessageCounts.{MessageCounts}
 use Rattle.reconstructor_state.specs.declared.BookReconstructor.{BookReconstructor}
 use Rattle.reconstructor_counts.specs.Counts.{noCounts}
+use Rattle.reconstructor_segments.specs.declared.SegmentName.{SegmentName}
 use Rattle.reconstructor_segments.specs.Segments.{segmentAt}
 
 -- 01, Forms that change: "Limits and defaults sit with the rules' type (4,096 orders and levels ..)"
@@ -33,6 +34,10 @@ withCounts b k = with b (b .status) (b .rows) k
 
 abbrev pub withStatus : BookReconstructor → Status → BookReconstructor
 withStatus b s = with b s (b .rows) (b .counts)
+
+-- the name of the segment that a book is in: "the reconstructor's number .. with its place in the list"
+abbrev pub segmentOf : BookReconstructor → SegmentName
+segmentOf b = record { number = b .number; place = b .segments - 1 }
 
 -- the last sequence applied
 abbrev pub lastOf : Status → ℕ

@@ -3,8 +3,9 @@
 use message::ProductId;
 use reconstructor_answers::Invalidation;
 use reconstructor_counts::MessageCounts;
+use reconstructor_segments::SegmentName;
 ghost use mathlib.Core.Path.{_≡_};
-ghost use Rattle.reconstructor_state.specs.State.{limitedRules, newBook, withCounts, withStatus};
+ghost use Rattle.reconstructor_state.specs.State.{limitedRules, newBook, withCounts, withStatus, segmentOf};
 
 // What a size decrease does to an order's place in its queue.
 pub enum SizeDecrease {
@@ -108,6 +109,23 @@ impl BookReconstructor {
             rows: self.rows,
             segments: self.segments,
             counts,
+        }
+    }
+
+    // The name of the segment it is in.
+    pub fn segment_name(self) -> SegmentName
+        ensures { λ r. ⌜ r ≡ segmentOf self ⌝ }
+    {
+        let count = self.segments;
+        if count == 0 {
+            return SegmentName {
+                number: self.number,
+                place: 0,
+            };
+        }
+        SegmentName {
+            number: self.number,
+            place: count - 1,
         }
     }
 }

@@ -1,0 +1,176 @@
+// The snapshot handshake: after an accepted snapshot, buffered messages are stepped one by one; those that the snapshot already has are dropped.
+use message::L3Message;
+use message::ProductId;
+use reconstructor_answers::ApplyAnswer;
+use reconstructor_checks::Checked;
+use reconstructor_segments::SegmentName;
+use reconstructor_state::BookReconstructor;
+ghost use mathlib.Core.Path.{_≡_};
+ghost use mathlib.Core.Bool.{false};
+ghost use Prim.Native.Nat.{_*_, _-_, _≤_, _<_};
+ghost use lib.ListN.{length};
+ghost use Rattle.book.specs.Rows.{ceiling};
+ghost use Rattle.reconstructor_segments.specs.Segments.{segmentAt};
+ghost use Rattle.reconstructor_state.specs.State.{segmentOf};
+ghost use Rattle.reconstructor_checks.specs.Own.{Usable};
+ghost use Rattle.reconstructor_handshake.specs.Step.{stepNumber, otherSegment, drops, with, after, stepLeaves, stepped};
+
+// A handshake for one segment, with how many messages it applied. It hands itself back at each step.
+pub struct Handshake {
+    pub segment: SegmentName,
+    pub ended: bool,
+    pub applied: u64,
+}
+
+// The answer of a step: what `apply` says, a drop, or 9.
+pub enum StepAnswer {
+    Stepped(ApplyAnswer),
+    Dropped,
+    OtherSegment,
+}
+
+// What a step leaves of the handshake and the state, with its answer.
+pub struct StepReply {
+    pub handshake: Handshake,
+    pub book: BookReconstructor,
+    pub answer: StepAnswer,
+}
+
+impl StepAnswer {
+    pub fn number(self) -> u64
+        ensures { λ r. ⌜ r ≡ stepNumber self ⌝ }
+    {
+        match self {
+            StepAnswer::Stepped(answer) => answer.number(),
+            StepAnswer::Dropped => 0,
+            StepAnswer::OtherSegment => 9,
+        }
+    }
+}
+
+// Whether the snapshot already has a message.
+fn drops(product: ProductId, start_seq: u64, message: L3Message) -> bool
+    ensures { λ r. ⌜ r ≡ drops product «start_seq» message ⌝ }
+{
+    let got = message.product_id;
+    message::same_product(got, product) & (message.sequence <= start_seq)
+}
+
+impl Handshake {
+    // The handshake of the segment that the book is in, once a snapshot is accepted.
+    pub fn new(book: BookReconstructor) -> Self
+        ensures { λ r. ⌜ r ≡ record { segment = segmentOf book; ended = false; applied = 0 } ⌝ }
+    {
+        Self {
+            segment: book.segment_name(),
+            ended: false,
+            applied: 0,
+        }
+    }
+
+    // Number 9.
+    fn is_other(self, book: BookReconstructor) -> bool
+        ensures { λ r. ⌜ r ≡ otherSegment self (segmentOf book) (book .segments) ⌝ }
+    {
+        let segment = self.segment;
+        let same = reconstructor_segments::same_segment(segment, book.segment_name());
+        self.ended | ((book.segments == 0) | !same)
+    }
+
+    fn with(self, ended: bool, applied: u64) -> Self
+        ensures { λ r. ⌜ r ≡ with self ended applied ⌝ }
+    {
+        let segment = self.segment;
+        Self {
+            segment,
+            ended,
+            applied,
+        }
+    }
+
+    // What an answer of `apply` makes of it.
+    fn after(self, answer: ApplyAnswer) -> Self
+        ensures { λ r. ⌜ r ≡ after self answer ⌝ }
+    {
+        match answer {
+            ApplyAnswer::Applied(_) => {
+                self.with(
+                    self.ended,
+                    reconstructor_counts::saturating_next(self.applied),
+                )
+            }
+            ApplyAnswer::Unusable(_) => self,
+            ApplyAnswer::AmountOutOfRange => self,
+            ApplyAnswer::WrongProduct => self,
+            ApplyAnswer::NotBootstrapped => self,
+            ApplyAnswer::Invalidated(_) => self.with(true, self.applied),
+            ApplyAnswer::AwaitingSnapshot(_) => self.with(true, self.applied),
+        }
+    }
+
+    // A step that changes nothing.
+    fn unchanged(self, book: BookReconstructor, answer: StepAnswer) -> StepReply
+        ensures { λ r. ⌜ r ≡ record { answer = answer; handshake = self; book = book } ⌝ }
+    {
+        StepReply {
+            handshake: self,
+            book,
+            answer,
+        }
+    }
+
+    // A step of a state that passes 1, 2 and 3.
+    fn step_trusted(
+        self,
+        book: BookReconstructor,
+        rows: &mut [u64],
+        segments: &mut [u64],
+        message: L3Message,
+    ) -> StepReply
+        requires { ⌜ Usable ceiling book (now rows) (now segments) ⌝ }
+        ensures { λ r. ⌜ stepLeaves r (now (rows .exit)) (now (segments .exit)) ≡ stepped ceiling self book (now (rows .entry)) (now (segments .entry)) message ⌝ }
+    {
+        if self.is_other(book) {
+            return self.unchanged(book, StepAnswer::OtherSegment);
+        }
+        let event = message.event;
+        if !message::event_in_range(event) {
+            return self.unchanged(book, StepAnswer::Stepped(ApplyAnswer::AmountOutOfRange));
+        }
+        let product = book.product_id;
+        let last = reconstructor_segments::get_segment(segments, book.segments - 1);
+        if drops(product, last.start_seq, message) {
+            let counts = book.counts;
+            return self.unchanged(
+                book.with_counts(counts.handshake_dropped()),
+                StepAnswer::Dropped,
+            );
+        }
+        let reply = reconstructor::apply_trusted(book, rows, segments, message);
+        let next = reply.book;
+        let answer = reply.answer;
+        StepReply {
+            handshake: self.after(answer),
+            book: next,
+            answer: StepAnswer::Stepped(answer),
+        }
+    }
+
+    // Steps one buffered message: dropped if the snapshot already has it, else `apply` decides.
+    pub fn step(
+        mut self,
+        book: BookReconstructor,
+        rows: &mut [u64],
+        segments: &mut [u64],
+        message: L3Message,
+    ) -> StepReply
+        ensures { λ r. ⌜ stepLeaves r (now (rows .exit)) (now (segments .exit)) ≡ stepped ceiling self book (now (rows .entry)) (now (segments .entry)) message ⌝ }
+    {
+        match reconstructor_checks::own_checks(book, rows, segments) {
+            Checked::Refused(why) => {
+                self.unchanged(book, StepAnswer::Stepped(ApplyAnswer::Unusable(why)))
+            }
+            Checked::Passed => self.step_trusted(book, rows, segments, message),
+        }
+    }
+}
