@@ -138,7 +138,7 @@ is-accepted top b ws sg bytes h = go (readSnapshot bytes) refl (first-passed _ _
         }
 
 -- ending the open segment keeps the list's length
-length-closed : (st : Status) (sg : List ℕ) (n : ℕ) → 8 * n ≤ length sg → ((last : ℕ) → st ≡ Valid last → 0 < n) → length (closed st sg n) ≡ length sg
+pub length-closed : (st : Status) (sg : List ℕ) (n : ℕ) → 8 * n ≤ length sg → ((last : ℕ) → st ≡ Valid last → 0 < n) → length (closed st sg n) ≡ length sg
 unfolding closed
 length-closed Empty sg n h p = refl
 length-closed (Valid last) sg n h p = length-set-segment sg (n - 1) (superseded (segmentAt sg (n - 1))) (let q = p last refl in omega arith)

@@ -3,7 +3,7 @@
 use Prim.Native.Nat.{ℕ, _<_, _^_}
 use mathlib.Core.Path.{_≡_, refl, ap, _∙_}
 use mathlib.Core.Bool.{Bool}
-use mathlib.Core.List.{List, [], _∷_, map}
+use mathlib.Core.List.{List, [], _∷_}
 use Rattle.message.specs.declared.L3Side.{L3Side}
 use Rattle.message.specs.declared.OrderId.{OrderId}
 use Rattle.book.specs.declared.Resting.{Resting}
@@ -17,16 +17,9 @@ use Rattle.book_queue.proofs.Orders.{shownQueue, queue-read}
 use Rattle.reconstructor_state.specs.declared.BookReconstructor.{BookReconstructor}
 use Rattle.reconstructor_view.proofs.View.{Readable}
 use Rattle.reconstructor_reads.specs.Reads.{queueContent, levelsContent}
+use Rattle.reconstructor_reads.specs.Said.{queueSaid, l2Said, profileSaid, volumesAt}
 
 -- ---- `level_queue`: the id and remaining of each entry of five words are the line's queue there
-
-abbrev pub queueSaid : List ℕ → List (OrderId × ℕ)
-queueSaid (high ∷ low ∷ remaining ∷ observed ∷ entered ∷ ws) = (record { high = high; low = low }, remaining) ∷ queueSaid ws
-queueSaid [] = []
-queueSaid (high ∷ []) = []
-queueSaid (high ∷ low ∷ []) = []
-queueSaid (high ∷ low ∷ remaining ∷ []) = []
-queueSaid (high ∷ low ∷ remaining ∷ observed ∷ []) = []
 
 said-entries : (os : List Resting) → queueSaid (entriesWords Queue os) ≡ shownQueue os
 said-entries [] = refl
@@ -36,20 +29,6 @@ pub queue-said : (s : L3Side) (p : ℕ) (os : List Resting) → queueSaid (queue
 queue-said s p os = said-entries (rowsAt s p os) ∙ queue-read s p os
 
 -- ---- `l2`, `stale_l2` and `priority_profile`: the prices and totals are the line's prices of that side and its volumes there
-
-abbrev pub l2Said : List ℕ → List (ℕ × ℕ)
-l2Said (price ∷ total ∷ ws) = (price, total) ∷ l2Said ws
-l2Said [] = []
-l2Said (price ∷ []) = []
-
-abbrev pub profileSaid : List ℕ → List (ℕ × ℕ)
-profileSaid (price ∷ total ∷ unknown ∷ ws) = (price, total) ∷ profileSaid ws
-profileSaid [] = []
-profileSaid (price ∷ []) = []
-profileSaid (price ∷ total ∷ []) = []
-
-abbrev pub volumesAt : L3Side → List Resting → List ℕ → List (ℕ × ℕ)
-volumesAt s os ps = map (λ (p : ℕ). (p, volume s p (lineOf os))) ps
 
 said-l2 : (s : L3Side) (os : List Resting) (ps : List ℕ) → l2Said (levelsWords 2 s os ps) ≡ volumesAt s os ps
 said-l2 s os [] = refl

@@ -1,2 +1,3 @@
 pub mod Reads
 pub mod Numbers
+pub mod Said

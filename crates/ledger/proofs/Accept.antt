@@ -1,0 +1,85 @@
+-- What an accepted call passed, and so: after any list of calls the figures are the volumes of the ledger's line.
+-- Assumes nothing.
+use Prim.Native.Nat.{ℕ}
+use native.Mathlib.Omega.{arith}
+use mathlib.Core.Bool.{Bool, true, false}
+use mathlib.Core.Path.{_≡_, refl}
+use mathlib.Core.List.{List, [], _∷_}
+use mathlib.Core.Option.{Option, none, some}
+use Rattle.message.specs.declared.L3Message.{L3Message}
+use Rattle.piece.specs.declared.ReadSnapshot.{ReadSnapshot}
+use Rattle.piece.specs.declared.ReadSnapshot.the-variants as pieces
+use Rattle.piece.specs.Piece.{readSnapshot}
+use Rattle.book.specs.Line.{Entry}
+use Rattle.book.specs.Rows.{ceiling}
+use Rattle.reconstructor_answers.specs.declared.ApplyAnswer.{ApplyAnswer}
+use Rattle.reconstructor_answers.specs.declared.InvalidationKind.{InvalidationKind}
+use Rattle.reconstructor_state.specs.declared.VenueRules.{VenueRules}
+use Rattle.reconstructor_state.specs.State.{View, Lengths, lastOf}
+use Rattle.reconstructor_state.proofs.Checks.{passed, first-passed}
+use Rattle.reconstructor_plan.specs.Rules.{eventRefusal}
+use Rattle.reconstructor.specs.Refusals.{gateRefusal, turnRefusal}
+use Rattle.reconstructor_bootstrap.specs.declared.SnapshotAnswer.{SnapshotAnswer}
+use Rattle.reconstructor_bootstrap.specs.Snapshot.{snapshotLine}
+use Rattle.reconstructor_handshake.specs.declared.Handshake.{Handshake}
+use Rattle.reconstructor_handshake.specs.declared.StepAnswer.{StepAnswer}
+use Rattle.ledger.specs.Ledger.{Config, Call, bootstrap, apply, step, read, Figure, Ledger, Outcome, refused, invalidates, dropped, accepted, settle, applyOutcome, stepSettle, stepOutcome, viewBy, figureBy, viewBoot, figureBoot, bootOutcome, feedView, feedFigure, feed, feedAll, fresh}
+use Rattle.ledger.proofs.Volumes.{Tallies, event-tallies, tallied-tallies}
+
+absurd-path : {B : Type 0} → _≡_ {A = ℕ} 0 1 → B
+absurd-path z = absurd (omega arith)
+
+pub settled : (g : Option ApplyAnswer) (t : Option InvalidationKind) → settle g t ≡ accepted → (g ≡ none) × (t ≡ none)
+unfolding settle
+settled (some n) t h = absurd-path cc
+settled none (some n) h = absurd-path cc
+settled none none h = (refl, refl)
+
+pub step-settled : (g : Option StepAnswer) (d : Bool) (o : Outcome) → stepSettle g d o ≡ accepted → (g ≡ none) × (d ≡ false) × (o ≡ accepted)
+unfolding stepSettle
+step-settled (some n) d o h = absurd-path cc
+step-settled none true o h = absurd-path cc
+step-settled none false o h = (refl, refl, h)
+
+module _ (c : Config) (n : Lengths) (three : Bool) (w : View) where
+  pub in-turn : (m : L3Message) → applyOutcome c n three w m ≡ accepted
+      → (gateRefusal ceiling (c .product) (c .rules) n three w m ≡ none) × (turnRefusal (c .rules) (w .line) (lastOf (w .status)) m ≡ none)
+  unfolding applyOutcome
+  in-turn m h = settled _ _ h
+
+  pub step-applies : (h : Handshake) (m : L3Message) → stepOutcome c n three w h m ≡ accepted → applyOutcome c n three w m ≡ accepted
+  unfolding stepOutcome
+  step-applies h m q = step-settled _ _ _ q .2
+
+pub turn-event : (v : VenueRules) (l : List Entry) (last : ℕ) (m : L3Message) → turnRefusal v l last m ≡ none → eventRefusal v l (m .event) ≡ none
+unfolding turnRefusal
+turn-event v l last m h = first-passed _ _ _ (passed _ _ _ (passed _ _ _ (passed _ _ _ h .1) .1) .1) .0
+
+by-tallies : (v : VenueRules) (m : L3Message) (w : View) (f : Figure) (o : Outcome)
+    → (o ≡ accepted → turnRefusal v (w .line) (lastOf (w .status)) m ≡ none) → Tallies f (w .line) → Tallies (figureBy m o w f) (viewBy m o w .line)
+by-tallies v m w f refused h t = t
+by-tallies v m w f (invalidates k) h t = t
+by-tallies v m w f dropped h t = t
+by-tallies v m w f accepted h t = event-tallies v (w .line) (m .event) f t (turn-event v (w .line) (lastOf (w .status)) m (h refl))
+
+boot-tallies : (k : Option SnapshotAnswer) (s : ReadSnapshot) (bytes : List ℕ) (w : View) (f : Figure) → Tallies f (w .line)
+    → Tallies (figureBoot k s bytes f) (viewBoot k s bytes w .line)
+boot-tallies (some a) s bytes w f t = t
+boot-tallies none (pieces.Refused e) bytes w f t = t
+boot-tallies none (pieces.Snapshot s) bytes w f t = tallied-tallies (snapshotLine s bytes)
+
+module _ (c : Config) where
+  feed-tallies : (w : View) (k : Call) (f : Figure) → Tallies f (w .line) → Tallies (feedFigure c w k f) (feedView c w k .line)
+  unfolding feedView feedFigure
+  feed-tallies w (bootstrap n bytes) f t = boot-tallies (bootOutcome c n w bytes) (readSnapshot bytes) bytes w f t
+  feed-tallies w (apply n m) f t = by-tallies (c .rules) m w f _ (λ h. in-turn c n false w m h .1) t
+  feed-tallies w (step n h m) f t = by-tallies (c .rules) m w f _ (λ q. in-turn c n false w m (step-applies c n false w h m q) .1) t
+  feed-tallies w (read q) f t = t
+
+  pub all-tallies : (l : Ledger) (ks : List Call) → Tallies (l .figure) (l .view .line) → Tallies (feedAll c l ks .figure) (feedAll c l ks .view .line)
+  all-tallies l [] t = t
+  all-tallies l (k ∷ ks) t = all-tallies (feed c l k) ks (feed-tallies (l .view) k (l .figure) t)
+
+pub fresh-tallies : Tallies (fresh .figure) (fresh .view .line)
+unfolding Tallies
+fresh-tallies s p = refl

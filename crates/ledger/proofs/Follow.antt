@@ -1,0 +1,279 @@
+-- The world follows the ledger's view: after each call the state with its memory stands for it. Number 3 never arises.
+-- Assumes nothing.
+use Prim.Native.Nat.{ℕ, _+_, _*_, _-_, _/_, _≤_}
+use native.Mathlib.Omega.{arith}
+use mathlib.Core.Bool.{Bool, true, false, _||_}
+use mathlib.Core.Path.{_≡_, refl, sym, ap, ap₂, subst, _∙_}
+use mathlib.Core.List.{List, [], _∷_, _++_}
+use mathlib.Core.Option.{Option, none, some}
+use borrow.Author.Tests.{ltb-false, le-ltb}
+use lib.Dec.{ltb}
+use lib.ListN.{length, take, drop, length-append, take-append-drop}
+use lib.Seq.{length-take-le}
+use Rattle.laws.proofs.Bools.{or-no, or-both}
+use Rattle.message.specs.declared.L3Message.{L3Message}
+use Rattle.piece.specs.Piece.{readSnapshot}
+use Rattle.book.specs.Line.{Entry}
+use Rattle.book.specs.Rows.{ceiling, rowsFrom, rowsOf, lineOf}
+use Rattle.book.proofs.Kept.{empty-formed, not-broken}
+use Rattle.reconstructor_answers.specs.declared.StateError.{StateError}
+use Rattle.reconstructor_answers.specs.declared.StateError.the-variants.{LimitAboveCeiling, LentTooShort, MalformedBook}
+use Rattle.reconstructor_answers.specs.declared.ApplyAnswer.the-variants as answers
+use Rattle.reconstructor_segments.specs.Segments.{segmentAt}
+use Rattle.reconstructor_state.specs.declared.VenueRules.{VenueRules}
+use Rattle.reconstructor_state.specs.declared.BookReconstructor.{BookReconstructor}
+use Rattle.reconstructor_state.specs.State.{View, Lengths, lengthsOf, viewOf, newBook}
+use Rattle.reconstructor_state.proofs.Checks.{fails, goes-on, first-fails}
+use Rattle.reconstructor_checks.specs.Own.{Usable, broken, overCeiling, tooShort, stateRefusal, bookRefusal}
+use Rattle.reconstructor_checks.proofs.Own.{sound, usable-none}
+use Rattle.reconstructor.specs.Refusals.{gateRefusal}
+use Rattle.reconstructor.specs.Applied.{applied}
+use Rattle.reconstructor.proofs.Laws.{gate-stops}
+use Rattle.reconstructor.proofs.Kept.{refusal-leaves}
+use Rattle.reconstructor_bootstrap.specs.Snapshot.{bootRefusal}
+use Rattle.reconstructor_bootstrap.specs.declared.SnapshotAnswer.the-variants as snapshots
+use Rattle.reconstructor_bootstrap.specs.Bootstrap.{bootstrapped}
+use Rattle.reconstructor_bootstrap.proofs.Laws.{refusalOf, refused-is}
+use Rattle.reconstructor_handshake.specs.declared.Handshake.{Handshake}
+use Rattle.reconstructor_handshake.specs.Step.{stepRefusal, stepped}
+use Rattle.reconstructor_handshake.proofs.Step.{unusable-step}
+use Rattle.ledger.specs.Ledger.{Config, Call, bootstrap, apply, step, read, blank, refused, settle, applyOutcome, stepSettle, stepOutcome, bootOutcome, viewBy, viewBoot, feedView}
+use Rattle.ledger.specs.World.{World, lentRows, lentSegments, back, perform, run, Fits, Lendable, freshWorld, lineAt}
+use Rattle.ledger.proofs.Stands.{seen, Starts, Stands, rows-front, start-front, apply-stands, step-stands, boot-stands}
+use Rattle.ledger.proofs.Left.{Left, apply-left, step-left, boot-left}
+
+-- the views of all calls, one after the other
+abbrev pub viewAll : Config → View → List Call → View
+viewAll c v [] = v
+viewAll c v (k ∷ ks) = viewAll c (feedView c v k) ks
+
+pub record Follows (c : Config) (r s : ℕ) (w : World) (v : View) : Type 0 where
+  pub stands : Stands c (w .book) (w .rows) (w .segments) v
+  pub wide : length (w .rows) ≡ r
+  pub long : length (w .segments) ≡ s
+  pub room : 8 * w .book .rows ≤ length (w .rows)
+  pub listed : 8 * w .book .segments ≤ length (w .segments)
+
+some-same : (a b : StateError) → _≡_ {A = Option StateError} (some a) (some b) → a ≡ b
+some-same a b h = cc
+
+some-none : (a : StateError) → _≡_ {A = Option StateError} (some a) none → ⊥
+some-none a h = let z : _≡_ {A = ℕ} 0 1 = cc in omega (arith, z)
+
+-- ---- number 1 or 2 is said of the view and the lengths alone
+
+early : (v : VenueRules) (n : Lengths) (three : Bool) (w : View) → (overCeiling ceiling v || tooShort v n w) ≡ true
+    → (e : StateError) × (stateRefusal ceiling v n three w ≡ some e) × (e ≡ MalformedBook → ⊥)
+unfolding stateRefusal
+early v n three w h = go (overCeiling ceiling v) refl h
+  where
+    go : (b : Bool) → overCeiling ceiling v ≡ b → (b || tooShort v n w) ≡ true → (e : StateError) × (stateRefusal ceiling v n three w ≡ some e) × (e ≡ MalformedBook → ⊥)
+    go true p q = (LimitAboveCeiling, fails _ _ _ p, λ x. let z : _≡_ {A = ℕ} 0 1 = cc in omega (arith, z))
+    go false p q = (LentTooShort, goes-on _ _ _ _ p (fails _ _ _ q), λ x. let z : _≡_ {A = ℕ} 0 1 = cc in omega (arith, z))
+
+early-apply : (c : Config) (n : Lengths) (w : View) (m : L3Message) → (overCeiling ceiling (c .rules) || tooShort (c .rules) n w) ≡ true → applyOutcome c n false w m ≡ refused
+unfolding applyOutcome gateRefusal settle
+early-apply c n w m h = let e = early (c .rules) n false w h in rw (first-fails _ _ _ _ (e .1))
+
+early-step : (c : Config) (n : Lengths) (w : View) (h : Handshake) (m : L3Message) → (overCeiling ceiling (c .rules) || tooShort (c .rules) n w) ≡ true → stepOutcome c n false w h m ≡ refused
+unfolding stepOutcome stepRefusal stepSettle
+early-step c n w h m q = let e = early (c .rules) n false w q in rw (first-fails _ _ _ _ (e .1))
+
+early-boot : (c : Config) (n : Lengths) (w : View) (bytes : List ℕ) → (overCeiling ceiling (c .rules) || tooShort (c .rules) n w) ≡ true
+    → viewBoot (bootOutcome c n w bytes) (readSnapshot bytes) bytes w ≡ w
+unfolding bootRefusal
+early-boot c n w bytes h = let e = early (c .rules) n false w h in rw (first-fails _ _ _ _ (e .1))
+
+early-refusal : (b : BookReconstructor) (ws sg bytes : List ℕ) (e : StateError) → bookRefusal ceiling b ws sg ≡ some e → refusalOf ceiling b ws sg bytes ≡ some (snapshots.Unusable e)
+unfolding bootRefusal
+early-refusal b ws sg bytes e h = first-fails _ _ _ _ h
+
+-- ---- a call and the memory beyond what it is lent
+
+back-length : (k : ℕ) (l a : List ℕ) → length a ≡ length (take k l) → length (a ++ drop k l) ≡ length l
+back-length k l a h =
+    length-append a (drop k l) ∙ ap (λ (x : ℕ). x + length (drop k l)) h ∙ sym (length-append (take k l) (drop k l)) ∙ ap length (take-append-drop k l)
+
+broken-rows : (b : BookReconstructor) (ws vs : List ℕ) → rowsOf ws (b .rows) ≡ rowsOf vs (b .rows) → broken b ws ≡ broken b vs
+unfolding broken
+broken-rows b ws vs e = rw e
+
+module _ (c : Config) (r s : ℕ) (w : World) (v : View) (f : Follows c r s w v) (n : Lengths) (fits : Fits r s n) where
+  abbrev ws : List ℕ
+  ws = lentRows n w
+
+  abbrev sg : List ℕ
+  sg = lentSegments n w
+
+  lent-rows : length ws ≡ n .rows
+  lent-rows = length-take-le (n .rows) (w .rows) (omega (arith, fits .0, f .wide))
+
+  lent-segments : length sg ≡ 8 * n .segments
+  lent-segments = length-take-le (8 * n .segments) (w .segments) (omega (arith, fits .1, f .long))
+
+  lengths-are : lengthsOf ws sg ≡ n
+  lengths-are =
+      let q : length sg / 8 ≡ n .segments = omega (arith, lent-segments) in
+      ap₂ (λ (x y : ℕ). record { rows = x; segments = y }) lent-rows q
+
+  -- what a call left, with the memory beyond
+  kept-whole : (b : BookReconstructor) (vs tg : List ℕ) (x : View) → Stands c b vs tg x → Left ws sg b vs tg → Follows c r s (back n w b vs tg) x
+  kept-whole b vs tg x t l =
+      record {
+        stands =
+            record {
+              config = t .config;
+              view = ap (λ (y : List Entry). record { status = b .status; startSeq = x .startSeq; segments = b .segments; line = y }) (ap lineOf (rows-front vs (drop (n .rows) (w .rows)) (b .rows) (l .room))) ∙ t .view;
+              start = λ z. start-front tg (drop (8 * n .segments) (w .segments)) (b .segments - 1) (omega (arith, l .listed, z)) ∙ t .start z;
+              sound = broken-rows b (vs ++ drop (n .rows) (w .rows)) vs (rows-front vs (drop (n .rows) (w .rows)) (b .rows) (l .room)) ∙ t .sound;
+            };
+        wide = back-length (n .rows) (w .rows) vs (l .rows) ∙ f .wide;
+        long = back-length (8 * n .segments) (w .segments) tg (l .segments) ∙ f .long;
+        room = omega (arith, l .room, length-append vs (drop (n .rows) (w .rows)));
+        listed = omega (arith, l .listed, length-append tg (drop (8 * n .segments) (w .segments)));
+      }
+
+  -- nothing moved
+  same-whole : Follows c r s (back n w (w .book) ws sg) v
+  same-whole = rw (take-append-drop (n .rows) (w .rows), take-append-drop (8 * n .segments) (w .segments)) f
+
+  module _ (h : (overCeiling ceiling (c .rules) || tooShort (c .rules) n v) ≡ false) where
+    same-rows : rowsOf (w .rows) (w .book .rows) ≡ rowsOf ws (w .book .rows)
+    same-rows =
+        let k = or-no (overCeiling ceiling (c .rules)) (tooShort (c .rules) n v) h in
+        let d = or-no (ltb (n .rows) (8 * c .rules .«max_orders»)) (ltb (n .segments) (v .segments)) (k .1) in
+        let m : w .book .rows ≤ w .book .rules .«max_orders» = sound (w .book) (w .rows) (f .stands .sound) .few in
+        let e : w .book .rules .«max_orders» ≡ c .rules .«max_orders» = ap (λ (x : Config). x .rules .«max_orders») (f .stands .config) in
+        let z : rowsOf (ws ++ drop (n .rows) (w .rows)) (w .book .rows) ≡ rowsOf ws (w .book .rows) =
+        rows-front ws (drop (n .rows) (w .rows)) (w .book .rows) (omega (arith, m, e, lent-rows, ltb-false (n .rows) (8 * c .rules .«max_orders») (d .0))) in
+        ap (λ (x : List ℕ). rowsOf x (w .book .rows)) (sym (take-append-drop (n .rows) (w .rows))) ∙ z
+
+    same-view : seen (v .startSeq) (w .book) ws ≡ v
+    same-view =
+        ap (λ (y : List Entry). record { status = w .book .status; startSeq = v .startSeq; segments = w .book .segments; line = y }) (ap lineOf (sym same-rows)) ∙ f .stands .view
+
+    few-segments : w .book .segments ≤ n .segments
+    few-segments =
+        let k = or-no (overCeiling ceiling (c .rules)) (tooShort (c .rules) n v) h in
+        let d = or-no (ltb (n .rows) (8 * c .rules .«max_orders»)) (ltb (n .segments) (v .segments)) (k .1) in
+        let e : w .book .segments ≡ v .segments = ap (λ (x : View). x .segments) (f .stands .view) in
+        omega (arith, e, ltb-false (n .segments) (v .segments) (d .1))
+
+    usable-now : Usable ceiling (w .book) ws sg
+    usable-now =
+        let k = or-no (overCeiling ceiling (c .rules)) (tooShort (c .rules) n v) h in
+        let e : w .book .rules ≡ c .rules = ap (λ (x : Config). x .rules) (f .stands .config) in
+        let g : w .book .segments ≡ v .segments = ap (λ (x : View). x .segments) (f .stands .view) in
+        let q : length sg / 8 ≡ n .segments = omega (arith, lent-segments) in
+        record {
+          within = ap (overCeiling ceiling) e ∙ k .0;
+          lent = ap₂ _||_ (ap₂ ltb lent-rows (ap (λ (x : VenueRules). 8 * x .«max_orders») e)) (ap₂ ltb q g) ∙ k .1;
+          sound = broken-rows (w .book) ws (w .rows) (sym same-rows) ∙ f .stands .sound;
+        }
+
+    starts-now : Starts (v .startSeq) (w .book) sg
+    starts-now z =
+        sym (start-front sg (drop (8 * n .segments) (w .segments)) (w .book .segments - 1) (omega (arith, few-segments, lent-segments, z)))
+        ∙ ap (λ (x : List ℕ). segmentAt x (w .book .segments - 1) .«start_seq») (take-append-drop (8 * n .segments) (w .segments))
+        ∙ f .stands .start z
+
+  -- lent too little: 1 or 2, and nothing moves
+  early-own : (overCeiling ceiling (c .rules) || tooShort (c .rules) n v) ≡ true
+      → (e : StateError) × (bookRefusal ceiling (w .book) ws sg ≡ some e) × (e ≡ MalformedBook → ⊥)
+  early-own h =
+      let e : w .book .rules ≡ c .rules = ap (λ (x : Config). x .rules) (f .stands .config) in
+      let g : w .book .segments ≡ v .segments = ap (λ (x : View). x .segments) (f .stands .view) in
+      let q : length sg / 8 ≡ n .segments = omega (arith, lent-segments) in
+      early (w .book .rules) (lengthsOf ws sg) (broken (w .book) ws) (viewOf (w .book) ws sg)
+      (ap₂ _||_ (ap (overCeiling ceiling) e) (ap₂ _||_ (ap₂ ltb lent-rows (ap (λ (x : VenueRules). 8 * x .«max_orders») e)) (ap₂ ltb q g)) ∙ h)
+
+  early-applied : (overCeiling ceiling (c .rules) || tooShort (c .rules) n v) ≡ true → (m : L3Message)
+      → (applied ceiling (w .book) ws sg m .book ≡ w .book) × (applied ceiling (w .book) ws sg m .rows ≡ ws) × (applied ceiling (w .book) ws sg m .segments ≡ sg)
+  early-applied h m =
+      let e = early-own h in
+      let l = refusal-leaves ceiling (w .book) ws sg m (answers.Unusable (e .0)) (gate-stops ceiling (w .book) ws sg m (e .0) (e .1)) in
+      (l .1, l .2, l .3)
+
+  -- "3 never arises here"
+  pub never-three : bookRefusal ceiling (w .book) ws sg ≡ some MalformedBook → ⊥
+  never-three x = go (overCeiling ceiling (c .rules) || tooShort (c .rules) n v) refl
+    where
+      go : (b : Bool) → (overCeiling ceiling (c .rules) || tooShort (c .rules) n v) ≡ b → ⊥
+      go true h = let e = early-own h in e .2 (some-same (e .0) MalformedBook (sym (e .1) ∙ x))
+      go false h = some-none MalformedBook (sym x ∙ usable-none ceiling (w .book) ws sg (usable-now h))
+
+  apply-follows : (m : L3Message) → Follows c r s (perform w (apply n m)) (feedView c v (apply n m))
+  unfolding perform feedView
+  apply-follows m = go (overCeiling ceiling (c .rules) || tooShort (c .rules) n v) refl
+    where
+      go : (b : Bool) → (overCeiling ceiling (c .rules) || tooShort (c .rules) n v) ≡ b
+          → Follows c r s (back n w (applied ceiling (w .book) ws sg m .book) (applied ceiling (w .book) ws sg m .rows) (applied ceiling (w .book) ws sg m .segments)) (viewBy m (applyOutcome c n false v m) v)
+      go true h = rw (early-apply c n v m h, early-applied h m .0, early-applied h m .1, early-applied h m .2) same-whole
+      go false h =
+          let t = rw (f .stands .config, lengths-are, same-view h) at (apply-stands (w .book) ws sg (v .startSeq) (usable-now h) (starts-now h) m) in
+          kept-whole _ _ _ _ t (apply-left (w .book) ws sg (usable-now h) m)
+
+  step-follows : (h : Handshake) (m : L3Message) → Follows c r s (perform w (step n h m)) (feedView c v (step n h m))
+  unfolding perform feedView
+  step-follows h m = go (overCeiling ceiling (c .rules) || tooShort (c .rules) n v) refl
+    where
+      go : (b : Bool) → (overCeiling ceiling (c .rules) || tooShort (c .rules) n v) ≡ b
+          → Follows c r s (back n w (stepped ceiling h (w .book) ws sg m .book) (stepped ceiling h (w .book) ws sg m .rows) (stepped ceiling h (w .book) ws sg m .segments)) (viewBy m (stepOutcome c n false v h m) v)
+      go true q =
+          let e = early-own q in
+          rw (early-step c n v h m q, unusable-step h (w .book) ws sg m (e .0) (e .1)) same-whole
+      go false q =
+          let t = rw (f .stands .config, lengths-are, same-view q) at (step-stands (w .book) ws sg (v .startSeq) (usable-now q) (starts-now q) h m) in
+          kept-whole _ _ _ _ t (step-left (w .book) ws sg (usable-now q) m h)
+
+  boot-follows : (bytes : List ℕ) → Follows c r s (perform w (bootstrap n bytes)) (feedView c v (bootstrap n bytes))
+  unfolding perform feedView
+  boot-follows bytes = go (overCeiling ceiling (c .rules) || tooShort (c .rules) n v) refl
+    where
+      go : (b : Bool) → (overCeiling ceiling (c .rules) || tooShort (c .rules) n v) ≡ b
+          → Follows c r s
+          (back n w (bootstrapped ceiling (w .book) ws sg bytes .book) (bootstrapped ceiling (w .book) ws sg bytes .rows) (bootstrapped ceiling (w .book) ws sg bytes .segments))
+          (viewBoot (bootOutcome c n v bytes) (readSnapshot bytes) bytes v)
+      go true q =
+          let e = early-own q in
+          rw (early-boot c n v bytes q, refused-is ceiling (w .book) ws sg bytes (snapshots.Unusable (e .0)) (early-refusal (w .book) ws sg bytes (e .0) (e .1))) same-whole
+      go false q =
+          let t₁ =
+          subst
+          (λ (x : Config).
+          Stands x (bootstrapped ceiling (w .book) ws sg bytes .book) (bootstrapped ceiling (w .book) ws sg bytes .rows) (bootstrapped ceiling (w .book) ws sg bytes .segments)
+          (viewBoot (bootOutcome x (lengthsOf ws sg) (seen (v .startSeq) (w .book) ws) bytes) (readSnapshot bytes) bytes (seen (v .startSeq) (w .book) ws)))
+          (f .stands .config)
+          (boot-stands (w .book) ws sg (v .startSeq) (usable-now q) (starts-now q) bytes) in
+          let t = rw (lengths-are, same-view q) at t₁ in
+          kept-whole _ _ _ _ t (boot-left (w .book) ws sg (usable-now q) bytes)
+
+-- ---- any list of calls
+
+module _ (c : Config) (r s : ℕ) where
+  pub follow-all : (w : World) (v : View) (ks : List Call) → Follows c r s w v → Lendable r s ks → Follows c r s (run w ks) (viewAll c v ks)
+  unfolding perform feedView
+  follow-all w v [] f l = f
+  follow-all w v (bootstrap n bytes ∷ ks) f l = follow-all (perform w (bootstrap n bytes)) (feedView c v (bootstrap n bytes)) ks (boot-follows c r s w v f n (l .0) bytes) (l .1)
+  follow-all w v (apply n m ∷ ks) f l = follow-all (perform w (apply n m)) (feedView c v (apply n m)) ks (apply-follows c r s w v f n (l .0) m) (l .1)
+  follow-all w v (step n h m ∷ ks) f l = follow-all (perform w (step n h m)) (feedView c v (step n h m)) ks (step-follows c r s w v f n (l .0) h m) (l .1)
+  follow-all w v (read q ∷ ks) f l = follow-all w v ks f l
+
+pub fresh-follows : (c : Config) (ws sg : List ℕ) → Follows c (length ws) (length sg) (freshWorld c ws sg) blank
+unfolding rowsFrom broken
+fresh-follows c ws sg =
+    record {
+      stands = record { config = refl; view = refl; start = λ z. absurd (omega (arith, z)); sound = whole };
+      wide = refl;
+      long = refl;
+      room = omega arith;
+      listed = omega arith;
+    }
+  where
+    whole : broken (newBook (c .product) (c .rules) (c .number)) ws ≡ false
+    whole =
+        or-both _ _ (le-ltb (c .rules .«max_orders») 0 (omega arith))
+        (or-both _ _ (not-broken (c .rules .«max_orders») (c .rules .«max_levels») [] (empty-formed (c .rules .«max_orders») (c .rules .«max_levels»))) refl)
+
+pub line-is : (c : Config) (ws sg : List ℕ) (ks : List Call) → Lendable (length ws) (length sg) ks → lineAt (run (freshWorld c ws sg) ks) ≡ viewAll c blank ks .line
+line-is c ws sg ks l = ap (λ (x : View). x .line) (follow-all c (length ws) (length sg) (freshWorld c ws sg) blank ks (fresh-follows c ws sg) l .stands .view)

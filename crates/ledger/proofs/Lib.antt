@@ -1,0 +1,10 @@
+pub mod Volumes
+pub mod Accept
+pub mod Stands
+pub mod Left
+pub mod Follow
+pub mod Replay
+pub mod Stale
+pub mod Said
+pub mod Sum
+pub mod Example

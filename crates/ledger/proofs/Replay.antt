@@ -1,0 +1,139 @@
+-- A fresh book fed only the calls that count comes to the same line.
+-- Assumes nothing.
+use Prim.Native.Nat.{ℕ, _+_, _*_, _≤_}
+use native.Mathlib.Omega.{arith}
+use mathlib.Core.Bool.{false, not}
+use mathlib.Core.Path.{_≡_, refl, ap}
+use mathlib.Core.List.{List, [], _∷_, _++_}
+use mathlib.Core.Option.{Option, none, some}
+use borrow.Author.Tests.{eqb-false, ltb-false, le-ltb, ne-eqb}
+use lib.Dec.{ltb}
+use Rattle.laws.proofs.Bools.{or-no, or-both}
+use Rattle.message.specs.declared.L3Message.{L3Message}
+use Rattle.message.specs.declared.ProductId.{ProductId}
+use Rattle.piece.specs.declared.ReadSnapshot.{ReadSnapshot}
+use Rattle.piece.specs.declared.ReadSnapshot.the-variants as pieces
+use Rattle.piece.specs.Piece.{readSnapshot}
+use Rattle.book.specs.Line.{Entry}
+use Rattle.book.specs.Rows.{ceiling}
+use Rattle.reconstructor_state.specs.declared.VenueRules.{VenueRules}
+use Rattle.reconstructor_state.specs.declared.Status.{Status}
+use Rattle.reconstructor_state.specs.State.{View, Lengths, lastOf}
+use Rattle.reconstructor_state.proofs.Checks.{passed, goes-on, first-passed, first-on}
+use Rattle.reconstructor_checks.specs.Own.{stateRefusal}
+use Rattle.reconstructor_plan.specs.Rules.{effect, lineBy}
+use Rattle.reconstructor.specs.Refusals.{statusRefusal, admitRefusal, gateRefusal, turnRefusal}
+use Rattle.reconstructor_bootstrap.specs.declared.SnapshotAnswer.{SnapshotAnswer}
+use Rattle.reconstructor_bootstrap.specs.Snapshot.{acceptRefusal, pieceRefusal, bootRefusal}
+use Rattle.ledger.specs.Ledger.{Config, Call, bootstrap, apply, step, read, blank, Outcome, refused, invalidates, dropped, accepted, settle, applyOutcome, bootOutcome, viewBy, viewBoot, feedView}
+use Rattle.ledger.specs.Kept.{keptBy, keptBoot, keptAfter, keptAll, kept}
+use Rattle.ledger.proofs.Accept.{in-turn, step-applies}
+use Rattle.ledger.proofs.Follow.{viewAll}
+
+pub view-append : (c : Config) (v : View) (a b : List Call) → viewAll c v (a ++ b) ≡ viewAll c (viewAll c v a) b
+view-append c v [] b = refl
+view-append c v (k ∷ a) b = view-append c (feedView c v k) a b
+
+-- the view of the book so far, and that of the fresh one
+pub record Repeats (v w : View) : Type 0 where
+  pub line : w .line ≡ v .line
+  pub last : lastOf (w .status) ≡ lastOf (v .status)
+  pub fewer : w .segments ≤ v .segments
+  pub up : statusRefusal (v .status) ≡ none → statusRefusal (w .status) ≡ none
+
+-- lent the same, with no more segments
+state-again : (r : VenueRules) (n : Lengths) (v w : View) → w .segments ≤ v .segments → stateRefusal ceiling r n false v ≡ none → stateRefusal ceiling r n false w ≡ none
+unfolding stateRefusal
+state-again r n v w h q =
+    let q₁ = passed _ _ _ q in
+    let q₂ = passed _ _ _ (q₁ .1) in
+    let d = or-no (ltb (n .rows) (8 * r .«max_orders»)) (ltb (n .segments) (v .segments)) (q₂ .0) in
+    goes-on _ _ _ _ (q₁ .0)
+    (goes-on _ _ _ _ (or-both _ _ (d .0) (le-ltb (n .segments) (w .segments) (omega (arith, h, ltb-false (n .segments) (v .segments) (d .1)))))
+    (goes-on _ _ _ _ refl refl))
+
+-- 2 not said: the list has the segments
+listed-most : (r : VenueRules) (n : Lengths) (v : View) → stateRefusal ceiling r n false v ≡ none → v .segments ≤ n .segments
+unfolding stateRefusal
+listed-most r n v q =
+    let d = or-no (ltb (n .rows) (8 * r .«max_orders»)) (ltb (n .segments) (v .segments)) (passed _ _ _ (passed _ _ _ q .1) .0) in
+    ltb-false (n .segments) (v .segments) (d .1)
+
+outcome : (c : Config) (n : Lengths) (w : View) (m : L3Message) → gateRefusal ceiling (c .product) (c .rules) n false w m ≡ none
+    → turnRefusal (c .rules) (w .line) (lastOf (w .status)) m ≡ none → applyOutcome c n false w m ≡ accepted
+unfolding applyOutcome settle
+outcome c n w m p q = rw (p, q)
+
+pub admit-status : (p : ProductId) (s : Status) (m : L3Message) → admitRefusal p s m ≡ none → statusRefusal s ≡ none
+unfolding admitRefusal
+admit-status p s m h = passed _ _ _ (passed _ _ _ h .1) .1
+
+admit-again : (p : ProductId) (s t : Status) (m : L3Message) → statusRefusal t ≡ none → admitRefusal p s m ≡ none → admitRefusal p t m ≡ none
+unfolding admitRefusal
+admit-again p s t m q h =
+    let h₁ = passed _ _ _ h in
+    let h₂ = passed _ _ _ (h₁ .1) in
+    goes-on _ _ _ _ (h₁ .0) (goes-on _ _ _ _ (h₂ .0) q)
+
+module _ (c : Config) (n : Lengths) (v w : View) (r : Repeats v w) (m : L3Message) where
+  gate-again : gateRefusal ceiling (c .product) (c .rules) n false v m ≡ none → (statusRefusal (v .status) ≡ none) × (gateRefusal ceiling (c .product) (c .rules) n false w m ≡ none)
+  unfolding gateRefusal
+  gate-again h =
+      let q = first-passed _ _ _ h in
+      let s = admit-status (c .product) (v .status) m (q .1) in
+      (s, first-on _ _ _ _ (state-again (c .rules) n v w (r .fewer) (q .0)) (admit-again (c .product) (v .status) (w .status) m (r .up s) (q .1)))
+
+  apply-again : applyOutcome c n false v m ≡ accepted → Repeats (viewBy m accepted v) (feedView c w (apply n m))
+  unfolding feedView
+  apply-again h =
+      let q = in-turn c n false v m h in
+      let g = gate-again (q .0) in
+      let t : turnRefusal (c .rules) (w .line) (lastOf (w .status)) m ≡ none = rw (r .line, r .last) (q .1) in
+      let o : applyOutcome c n false w m ≡ accepted = outcome c n w m (g .1) t in
+      rw o (record { line = ap (λ (l : List Entry). lineBy (effect l (m .event)) l) (r .line); last = refl; fewer = r .fewer; up = λ _. refl })
+
+module _ (c : Config) (n : Lengths) (v : View) (bytes : List ℕ) where
+  piece-again : (s : ReadSnapshot) → v .segments ≤ n .segments → pieceRefusal (c .product) (c .rules) n v s bytes ≡ none → pieceRefusal (c .product) (c .rules) n blank s bytes ≡ none
+  unfolding acceptRefusal
+  piece-again (pieces.Refused e) f h = let z : _≡_ {A = ℕ} 0 1 = cc in absurd (omega arith)
+  piece-again (pieces.Snapshot s) f h =
+      let k = passed _ _ _ h in
+      let d : n .segments ≡ v .segments → ⊥ = eqb-false (n .segments) (v .segments) (k .0) in
+      goes-on _ _ _ _ (ne-eqb (n .segments) 0 (λ z. d (omega arith))) (k .1)
+
+  boot-again : bootOutcome c n v bytes ≡ none → bootOutcome c n blank bytes ≡ none
+  unfolding bootRefusal
+  boot-again h =
+      let q = first-passed _ _ _ h in
+      first-on _ _ _ _ (state-again (c .rules) n v blank (omega arith) (q .0)) (piece-again (readSnapshot bytes) (listed-most (c .rules) n v (q .0)) (q .1))
+
+by-repeats : (c : Config) (n : Lengths) (m : L3Message) (v : View) (ks : List Call) (o : Outcome) → (o ≡ accepted → applyOutcome c n false v m ≡ accepted)
+    → Repeats v (viewAll c blank ks) → Repeats (viewBy m o v) (viewAll c blank (keptBy o ks (apply n m)))
+by-repeats c n m v ks refused h r = r
+by-repeats c n m v ks (invalidates k) h r =
+    record { line = r .line; last = r .last; fewer = r .fewer; up = λ z. let y : _≡_ {A = ℕ} 0 1 = cc in absurd (omega arith) }
+by-repeats c n m v ks dropped h r = r
+by-repeats c n m v ks accepted h r = rw (view-append c blank ks (apply n m ∷ [])) (apply-again c n v (viewAll c blank ks) r m (h refl))
+
+boot-repeats : (c : Config) (n : Lengths) (v : View) (bytes : List ℕ) (ks : List Call) (o : Option SnapshotAnswer) (s : ReadSnapshot) → readSnapshot bytes ≡ s
+    → (o ≡ none → bootOutcome c n v bytes ≡ none) → Repeats v (viewAll c blank ks)
+    → Repeats (viewBoot o s bytes v) (viewAll c blank (keptBoot o s ks (bootstrap n bytes)))
+unfolding feedView
+boot-repeats c n v bytes ks (some a) s e h r = r
+boot-repeats c n v bytes ks none (pieces.Refused x) e h r = r
+boot-repeats c n v bytes ks none (pieces.Snapshot x) e h r =
+    rw (boot-again c n v bytes (h refl), e) (record { line = refl; last = refl; fewer = omega arith; up = λ _. refl })
+
+repeat-step : (c : Config) (v : View) (ks : List Call) (k : Call) → Repeats v (viewAll c blank ks) → Repeats (feedView c v k) (viewAll c blank (keptAfter c v ks k))
+unfolding feedView keptAfter
+repeat-step c v ks (bootstrap n bytes) r = boot-repeats c n v bytes ks (bootOutcome c n v bytes) (readSnapshot bytes) refl (λ h. h) r
+repeat-step c v ks (apply n m) r = by-repeats c n m v ks _ (λ h. h) r
+repeat-step c v ks (step n h m) r = by-repeats c n m v ks _ (step-applies c n false v h m) r
+repeat-step c v ks (read q) r = r
+
+repeats : (c : Config) (v : View) (ks rest : List Call) → Repeats v (viewAll c blank ks) → Repeats (viewAll c v rest) (viewAll c blank (keptAll c v ks rest))
+repeats c v ks [] r = r
+repeats c v ks (k ∷ rest) r = repeats c (feedView c v k) (keptAfter c v ks k) rest (repeat-step c v ks k r)
+
+pub all-repeats : (c : Config) (ks : List Call) → Repeats (viewAll c blank ks) (viewAll c blank (kept c ks))
+all-repeats c ks = repeats c blank [] ks (record { line = refl; last = refl; fewer = omega arith; up = λ h. h })

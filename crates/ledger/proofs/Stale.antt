@@ -1,0 +1,146 @@
+-- Once invalidated, nothing counts and nothing rests anew: the line is what it was before the invalidating message.
+-- Assumes nothing.
+use Prim.Native.Nat.{ℕ}
+use native.Mathlib.Omega.{arith}
+use mathlib.Core.Bool.{Bool, true, false}
+use mathlib.Core.Path.{_≡_, refl, sym, ap, _∙_}
+use mathlib.Core.Logic.{_⊎_, inl, inr}
+use mathlib.Core.List.{List, [], _∷_, _++_, append-assoc, append-nil}
+use mathlib.Core.Option.{Option, none, some}
+use Rattle.message.specs.declared.L3Message.{L3Message}
+use Rattle.piece.specs.declared.ReadSnapshot.{ReadSnapshot}
+use Rattle.piece.specs.declared.ReadSnapshot.the-variants as pieces
+use Rattle.piece.specs.Piece.{readSnapshot}
+use Rattle.book.specs.Rows.{ceiling}
+use Rattle.reconstructor_answers.specs.declared.ApplyAnswer.{ApplyAnswer}
+use Rattle.reconstructor_answers.specs.declared.InvalidationKind.{InvalidationKind}
+use Rattle.reconstructor_state.specs.declared.Status.{Status}
+use Rattle.reconstructor_state.specs.declared.Status.the-variants as statuses
+use Rattle.reconstructor_state.specs.State.{View, Lengths}
+use Rattle.reconstructor_state.proofs.Checks.{first-passed}
+use Rattle.reconstructor.specs.Refusals.{statusRefusal, gateRefusal}
+use Rattle.reconstructor_bootstrap.specs.declared.SnapshotAnswer.{SnapshotAnswer}
+use Rattle.reconstructor_handshake.specs.declared.Handshake.{Handshake}
+use Rattle.reconstructor_handshake.specs.declared.StepAnswer.{StepAnswer}
+use Rattle.ledger.specs.Ledger.{Config, Call, bootstrap, apply, step, read, blank, Outcome, refused, invalidates, dropped, accepted, settle, applyOutcome, stepSettle, stepOutcome, bootOutcome, viewBy, viewBoot, feedView}
+use Rattle.ledger.specs.Kept.{keptBy, keptBoot, keptAfter, keptAll, kept}
+use Rattle.ledger.specs.Sum.{valid, invalid, standingOf}
+use Rattle.ledger.proofs.Follow.{viewAll}
+use Rattle.ledger.proofs.Replay.{view-append, admit-status}
+
+-- an outcome that changes the view
+abbrev touches : Outcome → Type 0
+touches refused = ⊥
+touches (invalidates k) = Unit {0}
+touches dropped = ⊥
+touches accepted = Unit {0}
+
+touched : (g : Option ApplyAnswer) (t : Option InvalidationKind) → touches (settle g t) → g ≡ none
+unfolding settle
+touched (some a) t h = absurd h
+touched none t h = refl
+
+through : (g : Option StepAnswer) (d : Bool) (o : Outcome) → touches (stepSettle g d o) → touches o
+unfolding stepSettle
+through (some a) d o h = absurd h
+through none true o h = absurd h
+through none false o h = h
+
+is-valid : (s : Status) → statusRefusal s ≡ none → standingOf s ≡ valid
+is-valid statuses.Empty h = let z : _≡_ {A = ℕ} 0 1 = cc in absurd (omega arith)
+is-valid (statuses.Valid last) h = refl
+is-valid (statuses.Invalidated i) h = let z : _≡_ {A = ℕ} 0 1 = cc in absurd (omega arith)
+
+module _ (c : Config) (n : Lengths) (v : View) where
+  gate-valid : (m : L3Message) → gateRefusal ceiling (c .product) (c .rules) n false v m ≡ none → standingOf (v .status) ≡ valid
+  unfolding gateRefusal
+  gate-valid m h = is-valid (v .status) (admit-status (c .product) (v .status) m (first-passed _ _ _ h .1))
+
+  apply-touched : (m : L3Message) → touches (applyOutcome c n false v m) → standingOf (v .status) ≡ valid
+  unfolding applyOutcome
+  apply-touched m h = gate-valid m (touched _ _ h)
+
+  step-touched : (h : Handshake) (m : L3Message) → touches (stepOutcome c n false v h m) → standingOf (v .status) ≡ valid
+  unfolding stepOutcome
+  step-touched h m t = apply-touched m (through _ _ _ t)
+
+-- a call after which the book is invalid: it was so before, or that call made it so; nothing counts, and the line stays
+record Frozen (v v′ : View) (ks ks′ : List Call) : Type 0 where
+  was : (standingOf (v .status) ≡ invalid) ⊎ (standingOf (v .status) ≡ valid)
+  kept : ks′ ≡ ks
+  line : v′ .line ≡ v .line
+
+by-frozen : (m : L3Message) (v : View) (ks : List Call) (k : Call) (o : Outcome) → (touches o → standingOf (v .status) ≡ valid)
+    → standingOf (viewBy m o v .status) ≡ invalid → Frozen v (viewBy m o v) ks (keptBy o ks k)
+by-frozen m v ks k refused h q = record { was = inl q; kept = refl; line = refl }
+by-frozen m v ks k (invalidates i) h q = record { was = inr (h tt); kept = refl; line = refl }
+by-frozen m v ks k dropped h q = record { was = inl q; kept = refl; line = refl }
+by-frozen m v ks k accepted h q = let z : _≡_ {A = ℕ} 0 1 = cc in absurd (omega arith)
+
+boot-frozen : (v : View) (ks : List Call) (k : Call) (bytes : List ℕ) (s : ReadSnapshot) (o : Option SnapshotAnswer)
+    → standingOf (viewBoot o s bytes v .status) ≡ invalid → Frozen v (viewBoot o s bytes v) ks (keptBoot o s ks k)
+boot-frozen v ks k bytes s (some a) q = record { was = inl q; kept = refl; line = refl }
+boot-frozen v ks k bytes (pieces.Refused e) none q = record { was = inl q; kept = refl; line = refl }
+boot-frozen v ks k bytes (pieces.Snapshot s) none q = let z : _≡_ {A = ℕ} 0 1 = cc in absurd (omega arith)
+
+frozen : (c : Config) (v : View) (ks : List Call) (k : Call) → standingOf (feedView c v k .status) ≡ invalid → Frozen v (feedView c v k) ks (keptAfter c v ks k)
+unfolding feedView keptAfter
+frozen c v ks (bootstrap n bytes) q = boot-frozen v ks (bootstrap n bytes) bytes (readSnapshot bytes) (bootOutcome c n v bytes) q
+frozen c v ks (apply n m) q = by-frozen m v ks (apply n m) (applyOutcome c n false v m) (apply-touched c n v m) q
+frozen c v ks (step n h m) q = by-frozen m v ks (apply n m) (stepOutcome c n false v h m) (step-touched c n v h m) q
+frozen c v ks (read x) q = record { was = inl q; kept = refl; line = refl }
+
+-- the calls so far fall into those before an invalidating message, that message, and those since
+pub record Stale (c : Config) (ks : List Call) : Type 0 where
+  pub before : List Call
+  pub bad : Call
+  pub after : List Call
+  pub parts : ks ≡ before ++ (bad ∷ after)
+  pub stood : standingOf (viewAll c blank before .status) ≡ valid
+  pub fell : standingOf (viewAll c blank (before ++ (bad ∷ [])) .status) ≡ invalid
+  pub kept : kept c ks ≡ kept c before
+  pub line : viewAll c blank ks .line ≡ viewAll c blank before .line
+
+abbrev IfStale : Config → List Call → Type 0
+IfStale c ks = standingOf (viewAll c blank ks .status) ≡ invalid → Stale c ks
+
+kept-append : (c : Config) (v : View) (ks a b : List Call) → keptAll c v ks (a ++ b) ≡ keptAll c (viewAll c v a) (keptAll c v ks a) b
+kept-append c v ks [] b = refl
+kept-append c v ks (k ∷ a) b = kept-append c (feedView c v k) (keptAfter c v ks k) a b
+
+one-more : (c : Config) (ks : List Call) (k : Call) → IfStale c ks → IfStale c (ks ++ (k ∷ []))
+one-more c ks k st q = go (f .was)
+  where
+    q′ : standingOf (feedView c (viewAll c blank ks) k .status) ≡ invalid
+    q′ = sym (ap (λ (x : View). standingOf (x .status)) (view-append c blank ks (k ∷ []))) ∙ q
+
+    f : Frozen (viewAll c blank ks) (feedView c (viewAll c blank ks) k) (kept c ks) (keptAfter c (viewAll c blank ks) (kept c ks) k)
+    f = frozen c (viewAll c blank ks) (kept c ks) k q′
+
+    same-kept : kept c (ks ++ (k ∷ [])) ≡ kept c ks
+    same-kept = kept-append c blank [] ks (k ∷ []) ∙ f .kept
+
+    same-line : viewAll c blank (ks ++ (k ∷ [])) .line ≡ viewAll c blank ks .line
+    same-line = ap (λ (x : View). x .line) (view-append c blank ks (k ∷ [])) ∙ f .line
+
+    go : ((standingOf (viewAll c blank ks .status) ≡ invalid) ⊎ (standingOf (viewAll c blank ks .status) ≡ valid)) → Stale c (ks ++ (k ∷ []))
+    go (inl z) =
+        let s = st z in
+        record {
+          before = s .before;
+          bad = s .bad;
+          after = s .after ++ (k ∷ []);
+          parts = ap (λ (x : List Call). x ++ (k ∷ [])) (s .parts) ∙ append-assoc (s .before) (s .bad ∷ s .after) (k ∷ []);
+          stood = s .stood;
+          fell = s .fell;
+          kept = same-kept ∙ s .kept;
+          line = same-line ∙ s .line;
+        }
+    go (inr z) = record { before = ks; bad = k; after = []; parts = refl; stood = z; fell = q; kept = same-kept; line = same-line }
+
+more : (c : Config) (ks rest : List Call) → IfStale c ks → IfStale c (ks ++ rest)
+more c ks [] st = rw (append-nil ks) st
+more c ks (k ∷ rest) st = rw (append-assoc ks (k ∷ []) rest) at (more c (ks ++ (k ∷ [])) rest (one-more c ks k st))
+
+pub stale-line : (c : Config) (ks : List Call) → standingOf (viewAll c blank ks .status) ≡ invalid → Stale c ks
+stale-line c ks = more c [] ks (λ q. let z : _≡_ {A = ℕ} 0 1 = cc in absurd (omega arith))

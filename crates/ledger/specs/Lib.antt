@@ -1,0 +1,4 @@
+pub mod Ledger
+pub mod World
+pub mod Kept
+pub mod Sum
