@@ -46,7 +46,7 @@ use Rattle.host_words.proofs.RoundTrip.{block-back}
 abbrev pub acts : ℕ → Bool
 acts k = eqb k 0 || (eqb k 256 || eqb k 16)
 
-abbrev counted : ℕ → List ℕ → List ℕ
+abbrev pub counted : ℕ → List ℕ → List ℕ
 counted k st = cond (eqb k 10) (raised st 25) (cond (eqb k 17) (raised st 24) st)
 
 abbrev pub refusalLeaves : ℕ → List ℕ → List ℕ → List ℕ → Call
@@ -83,16 +83,20 @@ gated-words st ws sg m none long h =
     let b = bookOf st in
     absurd-bool (sym (settled-acts b ws (lastOf (b .status)) m (turnRefusal (b .rules) (lineOf (rowsOf ws (b .rows))) (lastOf (b .status)) m)) ∙ h)
 
+pub applied-words : (st ws sg : List ℕ) (m : L3Message) → 27 ≤ length st → acts (afterApply st (applied ceiling (bookOf st) ws sg m) .number) ≡ false
+    → afterApply st (applied ceiling (bookOf st) ws sg m) ≡ refusalLeaves (afterApply st (applied ceiling (bookOf st) ws sg m) .number) st ws sg
+unfolding applied
+applied-words st ws sg m long h = gated-words st ws sg m (bookGate ceiling (bookOf st) ws sg m) long h
+
 -- the call, by what is lent
 abbrev applyBy : List ℕ → List ℕ → List ℕ → L3Message → Bool → Bool → Call
 applyBy st ws sg m x y = cond x (called 7 st ws sg) (cond y (called 7 st ws sg) (afterApply st (applied ceiling (bookOf st) ws sg m)))
 
 apply-by : (st ws sg : List ℕ) (m : L3Message) (x y : Bool) → ltb (length st) 27 ≡ x → acts (applyBy st ws sg m x y .number) ≡ false
     → applyBy st ws sg m x y ≡ refusalLeaves (applyBy st ws sg m x y .number) st ws sg
-unfolding applied
 apply-by st ws sg m true y e h = refl
 apply-by st ws sg m false true e h = refl
-apply-by st ws sg m false false e h = gated-words st ws sg m (bookGate ceiling (bookOf st) ws sg m) (ltb-false (length st) 27 e) h
+apply-by st ws sg m false false e h = applied-words st ws sg m (ltb-false (length st) 27 e) h
 
 pub apply-refused : (st ws sg m : List ℕ) → acts (applyCall st ws sg m .number) ≡ false
     → applyCall st ws sg m ≡ refusalLeaves (applyCall st ws sg m .number) st ws sg
@@ -116,12 +120,16 @@ gated-state st ws sg m none long =
     let b = bookOf st in
     settled-state st ws (lastOf (b .status)) m (turnRefusal (b .rules) (lineOf (rowsOf ws (b .rows))) (lastOf (b .status)) m) long
 
+pub applied-state : (st ws sg : List ℕ) (m : L3Message) → 27 ≤ length st
+    → bookOf (afterApply st (applied ceiling (bookOf st) ws sg m) .state) ≡ applied ceiling (bookOf st) ws sg m .book
+unfolding applied
+applied-state st ws sg m long = gated-state st ws sg m (bookGate ceiling (bookOf st) ws sg m) long
+
 pub apply-state : (st ws sg m : List ℕ) → 27 ≤ length st → 21 ≤ length m
     → bookOf (applyCall st ws sg m .state) ≡ applied ceiling (bookOf st) ws sg (messageOf m) .book
-unfolding applyCall applied
+unfolding applyCall
 apply-state st ws sg m long full =
-    rw (le-ltb (length st) 27 long, le-ltb (length m) 21 full)
-    (gated-state st ws sg (messageOf m) (bookGate ceiling (bookOf st) ws sg (messageOf m)) long)
+    rw (le-ltb (length st) 27 long, le-ltb (length m) 21 full) (applied-state st ws sg (messageOf m) long)
 
 -- ---- `pinuglaw_bootstrap`: any number but 0 is a refusal's, and 10 to 14 raise the count in word 26
 

@@ -1,2 +1,4 @@
+pub mod Lent
 pub mod Blocks
+pub mod Steps
 pub mod Views

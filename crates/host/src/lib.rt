@@ -1,6 +1,10 @@
 // The library as Rust and C call it: functions on numbers and slices, each answering a number of 01's table, 0 for success (of a message that changed the
 // book, 256). A slice is lent as a pointer and a length; what one call is lent does not overlap.
 use book_valid::rows_broken;
+use host_handshake::load_handshake;
+use host_handshake::step_number;
+use host_handshake::step_sets_status;
+use host_handshake::store_handshake;
 use host_reads::audit_number;
 use host_reads::load_estimate;
 use host_reads::store_ahead;
@@ -26,12 +30,13 @@ use piece::ReadSnapshot;
 use piece::read_message;
 use piece::read_snapshot;
 use piece::snapshot_order;
+use reconstructor_handshake::Handshake;
 ghost use mathlib.Core.Path.{_≡_};
 ghost use Rattle.piece.specs.Piece.{readMessage, readSnapshot, orderAt};
 ghost use Rattle.book.specs.Broken.{wordsBroken};
 ghost use Rattle.host.specs.Reads.{messageNumber, messageOut, snapshotNumber, snapshotOut, orderNumber, orderOut};
 ghost use Rattle.host_reads.specs.Answers.{answered};
-ghost use Rattle.host.specs.Calls.{called, applyCall, bootstrapCall};
+ghost use Rattle.host.specs.Calls.{called, applyCall, bootstrapCall, handshakeCall, stepCalled, stepCall};
 ghost use Rattle.host.specs.Views.{lastCall, bestCall, auditCall, levelCalled, queueCall, profileCall, l2Call, staleCall, estimateCalled, estimateCall, ownCall, aheadCall};
 
 // Reads a message piece into 21 words: kind, product (two), sequence, time, then the event's fields.
@@ -166,6 +171,46 @@ pub extern "C" fn pinuglaw_bootstrap(
     let number = answer.number();
     store_book(state, book, number == 0);
     number
+}
+
+// A handshake for the segment that the book is in, into four words; crate `host_handshake` has the layout in specs/Steps.antt. Answers 0; 7, and writes
+// nothing, where fewer than 27 words of state or 4 of a handshake are lent.
+#[no_mangle]
+pub extern "C" fn pinuglaw_handshake(state: &[u64], handshake: &mut [u64]) -> u64
+    ensures { λ r. ⌜ answered r (now (handshake .exit)) ≡ handshakeCall (now (state .entry)) (now (handshake .entry)) ⌝ }
+{
+    if (state.len() < 27) | (handshake.len() < 4) {
+        return 7;
+    }
+    store_handshake(handshake, Handshake::new(load_book(state)));
+    0
+}
+
+// Steps a handshake by a message of 21 words. Answers as `pinuglaw_apply` does, 512 where the message was dropped, and 9 where the handshake has ended or is
+// of another segment; 7, and touches nothing, where fewer words are lent. A refusal leaves what it leaves of `pinuglaw_apply`; 17 ends the handshake.
+#[no_mangle]
+pub extern "C" fn pinuglaw_step(
+    state: &mut [u64],
+    rows: &mut [u64],
+    segments: &mut [u64],
+    handshake: &mut [u64],
+    message: &[u64],
+) -> u64
+    ensures { λ r. ⌜ stepCalled r (now (state .exit)) (now (rows .exit)) (now (segments .exit)) (now (handshake .exit)) ≡ stepCall (now (state .entry)) (now (rows .entry)) (now (segments .entry)) (now (handshake .entry)) (now (message .entry)) ⌝ }
+{
+    if (state.len() < 27) | ((handshake.len() < 4) | (message.len() < 21)) {
+        return 7;
+    }
+    let reply = load_handshake(handshake).step(
+        load_book(state),
+        rows,
+        segments,
+        load_message(message),
+    );
+    let answer = reply.answer;
+    store_book(state, reply.book, step_sets_status(answer));
+    store_handshake(handshake, reply.handshake);
+    step_number(answer)
 }
 
 // ---- reads. Each answers 0 or 01's number, and 7, writing nothing, where a part is shorter than its fixed size: 27 words of state, 8 of an estimate, 7 of a

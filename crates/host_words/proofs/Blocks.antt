@@ -45,6 +45,12 @@ module _ (st : List ℕ) (long : 27 ≤ length st) where
   past : (i : ℕ) (a : ℕ) (j : ℕ) → i < j → set (set st i a) j (getD st j 0) ≡ set st i a
   past i a j h = ap (set (set st i a) j) (sym (getD-set-other st i j a 0 (λ e. omega (arith, e, h)))) ∙ set-getD (set st i a) j 0
 
+  pub raised-dropped : restored st false (withCounts (bookOf st) (countedAt 8 (bookOf st .counts))) ≡ raised st 23
+  unfolding bookOf
+  raised-dropped =
+      let up = saturated (getD st 23 0) in
+      unset (withCounts (bookOf st) (countedAt 8 (bookOf st .counts))) ∙ simp (set-getD, past 23 up 24 (omega arith), past 23 up 25 (omega arith), past 23 up 26 (omega arith))
+
   pub raised-skipped : restored st false (withCounts (bookOf st) (countedAt 9 (bookOf st .counts))) ≡ raised st 24
   unfolding bookOf
   raised-skipped = unset (withCounts (bookOf st) (countedAt 9 (bookOf st .counts))) ∙ simp (set-getD, past 24 (saturated (getD st 24 0)) 25 (omega arith), past 24 (saturated (getD st 24 0)) 26 (omega arith))

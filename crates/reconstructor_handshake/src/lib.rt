@@ -6,14 +6,13 @@ use reconstructor_checks::Checked;
 use reconstructor_segments::SegmentName;
 use reconstructor_state::BookReconstructor;
 ghost use mathlib.Core.Path.{_≡_};
-ghost use mathlib.Core.Bool.{false};
 ghost use Prim.Native.Nat.{_*_, _-_, _≤_, _<_};
 ghost use lib.ListN.{length};
 ghost use Rattle.book.specs.Rows.{ceiling};
 ghost use Rattle.reconstructor_segments.specs.Segments.{segmentAt};
 ghost use Rattle.reconstructor_state.specs.State.{segmentOf};
 ghost use Rattle.reconstructor_checks.specs.Own.{Usable};
-ghost use Rattle.reconstructor_handshake.specs.Step.{stepNumber, otherSegment, drops, with, after, stepLeaves, stepped};
+ghost use Rattle.reconstructor_handshake.specs.Step.{newHandshake, stepNumber, otherSegment, drops, with, after, stepLeaves, stepped};
 
 // A handshake for one segment, with how many messages it applied. It hands itself back at each step.
 pub struct Handshake {
@@ -59,7 +58,7 @@ fn drops(product: ProductId, start_seq: u64, message: L3Message) -> bool
 impl Handshake {
     // The handshake of the segment that the book is in, once a snapshot is accepted.
     pub fn new(book: BookReconstructor) -> Self
-        ensures { λ r. ⌜ r ≡ record { segment = segmentOf book; ended = false; applied = 0 } ⌝ }
+        ensures { λ r. ⌜ r ≡ newHandshake (segmentOf book) ⌝ }
     {
         Self {
             segment: book.segment_name(),

@@ -1,9 +1,5 @@
 use mathlib.Core.Path.{_∙_, ap}
-use borrow.Author.Tests.{ltb-false}
-use lib.Dec.{ltb}
-use lib.ListN.{length}
-use mathlib.Core.Bool.{_||_}
-use Rattle.laws.proofs.Bools.{or-no}
+use Rattle.host.proofs.Lent.{lent-three}
 use Rattle.host.specs.Views.{aheadCall}
 use Rattle.host_reads.specs.Estimates.{aheadAnswered}
 use borrow.Author.Needs.{needs}
@@ -17,18 +13,18 @@ returns c = rw (c .if1 .taken)
 load-book-requires : tie.Need-load-book-requires
 load-book-requires c κs =
     let k-start = c .before .before .before .before .before .before in
-    ltb-false (length (k-start .args .state .now)) 27 (or-no (ltb (length (k-start .args .state .now)) 27) (ltb (length (k-start .args .estimate .now)) 8 || ltb (length (k-start .args .out .now)) 7) (c .if1 .left) .0)
+    lent-three (k-start .args .state .now) 27 (k-start .args .estimate .now) 8 (k-start .args .out .now) 7 (c .if1 .left) .0
 
 load-estimate-requires : tie.Need-load-estimate-requires
 load-estimate-requires c κs =
     let k-start = c .before .before .before .before .before .before .before in
-    ltb-false (length (k-start .args .estimate .now)) 8 (or-no (ltb (length (k-start .args .estimate .now)) 8) (ltb (length (k-start .args .out .now)) 7) (or-no (ltb (length (k-start .args .state .now)) 27) (ltb (length (k-start .args .estimate .now)) 8 || ltb (length (k-start .args .out .now)) 7) (c .before .if1 .left) .1) .0)
+    lent-three (k-start .args .state .now) 27 (k-start .args .estimate .now) 8 (k-start .args .out .now) 7 (c .before .if1 .left) .1 .0
 
 store-ahead-requires : tie.Need-store-ahead-requires
 store-ahead-requires c κs =
     let k-if1 = c .before .before .before .before in
     let k-start = k-if1 .before .before .before .before .before .before in
-    ltb-false (length (k-start .args .out .now)) 7 (or-no (ltb (length (k-start .args .estimate .now)) 8) (ltb (length (k-start .args .out .now)) 7) (or-no (ltb (length (k-start .args .state .now)) 27) (ltb (length (k-start .args .estimate .now)) 8 || ltb (length (k-start .args .out .now)) 7) (k-if1 .if1 .left) .1) .1)
+    lent-three (k-start .args .state .now) 27 (k-start .args .estimate .now) 8 (k-start .args .out .now) 7 (k-if1 .if1 .left) .1 .1
 
 returns-2 : tie.Need-returns-2
 unfolding aheadCall

@@ -1,0 +1,46 @@
+-- A handshake from words and as words, and the number of a step's answer. Any words are some handshake.
+use Prim.Native.Nat.{ℕ}
+use mathlib.Core.Bool.{Bool, true, false, not, cond}
+use mathlib.Core.List.{List, _∷_}
+use lib.Dec.{eqb}
+use lib.ListN.{getD, drop}
+use Rattle.reconstructor_handshake.specs.declared.Handshake.{Handshake}
+use Rattle.reconstructor_handshake.specs.declared.StepAnswer.{StepAnswer}
+use Rattle.reconstructor_handshake.specs.declared.StepAnswer.the-variants.{Stepped, Dropped, OtherSegment}
+use Rattle.host_words.specs.Block.{applyNumber, setsStatus}
+
+-- ---- A handshake: four words
+--   0, 1  its segment's name: the reconstructor's number, and the place in the list
+--   2     0 until it has ended, then any other word (1 when written)
+--   3     the number of messages applied
+
+unfoldable pub handshakeOf : List ℕ → Handshake
+handshakeOf ws =
+    record {
+      segment = record { number = getD ws 0 0; place = getD ws 1 0 };
+      ended = not (eqb (getD ws 2 0) 0);
+      applied = getD ws 3 0;
+    }
+
+-- word 2 afterwards, `was` before
+abbrev pub endedWord : ℕ → Bool → ℕ
+endedWord was ended = cond ended (cond (eqb was 0) 1 was) 0
+
+-- what a call leaves of the words lent for a handshake; those past 3 stay
+unfoldable pub handshakeLeft : List ℕ → Handshake → List ℕ
+handshakeLeft ws h =
+    h .segment .number ∷ h .segment .place ∷ endedWord (getD ws 2 0) (h .ended) ∷ h .applied ∷ drop 4 ws
+
+-- ---- An answer
+
+-- as `apply` is answered, and 512 for a message that is dropped
+abbrev pub stepWord : StepAnswer → ℕ
+stepWord (Stepped a) = applyNumber a
+stepWord Dropped = 512
+stepWord OtherSegment = 9
+
+-- whether the status is set: only where `apply` sets it
+abbrev pub stepSets : StepAnswer → Bool
+stepSets (Stepped a) = setsStatus a
+stepSets Dropped = false
+stepSets OtherSegment = false
