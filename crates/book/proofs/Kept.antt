@@ -313,35 +313,6 @@ snapshot-kept mo ml t l f =
       apart = ap crossed (line-snapshot t l) ∙ f .apart;
     }
 
--- ---- a snapshot vetted order by order. 01, bootstrap: "each bid and then each ask in turn: 11, 12, 14 (levels); last 13"
-
-pub record Vetted (maxLevels : ℕ) (l : List Entry) : Type 0 where
-  pub sound : someOutOfRange l ≡ false
-  pub single : idTwice l ≡ false
-  pub flat : levels l ≤ maxLevels
-
-pub vetted-none : (ml : ℕ) → Vetted ml []
-vetted-none ml = record { sound = refl; single = refl; flat = omega arith }
-
-range-join : (l : List Entry) (e : Entry) → someOutOfRange l ≡ false → (outOfRange (e .price) || outOfRange (e .remaining)) ≡ false → someOutOfRange (l ++ (e ∷ [])) ≡ false
-range-join [] e p q = or-both _ _ q refl
-range-join (a ∷ l) e p q =
-    let d = or-no (outOfRange (a .price) || outOfRange (a .remaining)) (someOutOfRange l) p in
-    or-both _ _ (d .0) (range-join l e (d .1) q)
-
-pub vetted-join : (ml : ℕ) (l : List Entry) (e : Entry) → Vetted ml l → rests (e .id) l ≡ false → (outOfRange (e .price) || outOfRange (e .remaining)) ≡ false
-    → (hasLevel (e .side) (e .price) l ≡ false → levels l < ml) → Vetted ml (l ++ (e ∷ []))
-vetted-join ml l e v new range room =
-    let r = level-room ml l e (v .flat) room in
-    record {
-      sound = range-join l e (v .sound) range;
-      single = twice-join l e ∙ or-both _ _ new (v .single);
-      flat = omega (arith, levels-join l e, r);
-    }
-
-pub vetted-fits : (mo ml : ℕ) (l : List Entry) → length l ≤ mo → Vetted ml l → crossed l ≡ false → SnapshotFits mo ml l
-vetted-fits mo ml l few v apart = record { few = few; sound = v .sound; single = v .single; flat = v .flat; apart = apart }
-
 -- an empty book
 pub empty-formed : (mo ml : ℕ) → WellFormed mo ml []
 empty-formed mo ml = record { few = omega arith; sound = refl; single = refl; flat = omega arith; apart = refl }

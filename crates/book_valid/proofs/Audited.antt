@@ -13,7 +13,7 @@ use Rattle.book.specs.Rows.{Lent, ceiling, rowsOf}
 use Rattle.book.specs.Broken.{rowBroken, someRowBroken, WellFormed}
 use Rattle.book.proofs.Kept.{sound-row}
 use Rattle.book_valid.specs.declared.AuditAnswer.the-variants.{Ok}
-use Rattle.book_valid.specs.Audit.{someEmpty, auditOf}
+use Rattle.book_valid.specs.Audit.{someEmpty, auditRows, auditOf}
 
 none-empty : (os : List Resting) → someRowBroken os ≡ false → someEmpty os ≡ false
 none-empty [] h = refl
@@ -22,6 +22,8 @@ none-empty (o ∷ os) h =
     let s = sound-row o (d .0) .remaining .low in
     or-both _ _ (ne-eqb (o .remaining) 0 (λ z. omega (arith, s, z))) (none-empty os (d .1))
 
+pub rows-ok : (mo ml : ℕ) (os : List Resting) → WellFormed mo ml os → auditRows os ≡ Ok
+rows-ok mo ml os w = rw (none-empty os (w .sound), w .single, w .apart)
+
 pub audit-ok : (mo ml : ℕ) (ws : List ℕ) (n : ℕ) → Lent ws n → WellFormed mo ml (rowsOf ws n) → auditOf ws n ≡ Ok
-audit-ok mo ml ws n l w =
-    rw (le-ltb ceiling n (l .few), le-ltb (length ws) (8 * n) (l .room), none-empty (rowsOf ws n) (w .sound), w .single, w .apart)
+audit-ok mo ml ws n l w = rw (le-ltb ceiling n (l .few), le-ltb (length ws) (8 * n) (l .room)) (rows-ok mo ml (rowsOf ws n) w)

@@ -10,15 +10,13 @@ use Rattle.message.specs.declared.L3Message.{L3Message}
 use Rattle.piece.specs.declared.ReadSnapshot.{ReadSnapshot}
 use Rattle.piece.specs.declared.ReadSnapshot.the-variants as pieces
 use Rattle.piece.specs.Piece.{readSnapshot}
-use Rattle.book.specs.Line.{Entry}
 use Rattle.book.specs.Rows.{ceiling}
 use Rattle.reconstructor_answers.specs.declared.ApplyAnswer.{ApplyAnswer}
 use Rattle.reconstructor_answers.specs.declared.InvalidationKind.{InvalidationKind}
 use Rattle.reconstructor_state.specs.declared.VenueRules.{VenueRules}
 use Rattle.reconstructor_state.specs.State.{View, Lengths, lastOf}
-use Rattle.reconstructor_state.proofs.Checks.{passed, first-passed}
-use Rattle.reconstructor_plan.specs.Rules.{eventRefusal}
 use Rattle.reconstructor.specs.Refusals.{gateRefusal, turnRefusal}
+use Rattle.reconstructor.proofs.Kept.{turn-event}
 use Rattle.reconstructor_bootstrap.specs.declared.SnapshotAnswer.{SnapshotAnswer}
 use Rattle.reconstructor_bootstrap.specs.Snapshot.{snapshotLine}
 use Rattle.reconstructor_handshake.specs.declared.Handshake.{Handshake}
@@ -50,10 +48,6 @@ module _ (c : Config) (n : Lengths) (three : Bool) (w : View) where
   pub step-applies : (h : Handshake) (m : L3Message) → stepOutcome c n three w h m ≡ accepted → applyOutcome c n three w m ≡ accepted
   unfolding stepOutcome
   step-applies h m q = step-settled _ _ _ q .2
-
-pub turn-event : (v : VenueRules) (l : List Entry) (last : ℕ) (m : L3Message) → turnRefusal v l last m ≡ none → eventRefusal v l (m .event) ≡ none
-unfolding turnRefusal
-turn-event v l last m h = first-passed _ _ _ (passed _ _ _ (passed _ _ _ (passed _ _ _ h .1) .1) .1) .0
 
 by-tallies : (v : VenueRules) (m : L3Message) (w : View) (f : Figure) (o : Outcome)
     → (o ≡ accepted → turnRefusal v (w .line) (lastOf (w .status)) m ≡ none) → Tallies f (w .line) → Tallies (figureBy m o w f) (viewBy m o w .line)

@@ -6,7 +6,7 @@ use mathlib.Core.Bool.{false}
 use mathlib.Core.List.{List, [], _∷_, _++_}
 use native.Mathlib.Omega.{arith}
 use lib.IntN.{pos}
-use lib.ListN.{length}
+use lib.ListN.{length, replicate}
 use Rattle.message.specs.declared.OrderId.{OrderId}
 use Rattle.message.specs.declared.ProductId.{ProductId}
 use Rattle.message.specs.declared.SnapshotOrder.{SnapshotOrder}
@@ -20,7 +20,7 @@ use Rattle.message.specs.Amounts.{differs, givenDiffers, absentOrDiffers}
 use Rattle.piece.specs.Bytes.{part, little, big, littleBytes, bigBytes}
 use Rattle.piece.specs.Piece.{readSnapshot, snapshotShaped, snapshotOf, bidsAt, asksAt, ordersFrom, orderAt, orderFrom, amountAt, wordAt, orderIdAt, productIdAt}
 use Rattle.piece.specs.Encode.{snapshotBytes}
-use Rattle.book.specs.Rows.{rowsFrom, stored, sideOf}
+use Rattle.book.specs.Rows.{ceiling, rowsFrom, stored, sideOf}
 use Rattle.book.specs.Broken.{rowBroken}
 use Rattle.reconstructor_counts.specs.Counts.{saturated}
 use Rattle.reconstructor_segments.specs.Segments.{setSegment}
@@ -34,8 +34,12 @@ use Rattle.reconstructor_bootstrap.specs.Snapshot.{lineRefusal, snapshotRefusal
 use Rattle.reconstructor_bootstrap.specs.Bootstrap.{bootstrapped, closed}
 use Rattle.reconstructor_handshake.specs.declared.Handshake.{Handshake}
 use Rattle.reconstructor_handshake.specs.Step.{stepRefusal, settledStep, stepped}
-use Rattle.ledger.specs.Ledger.{Config, Call, bootstrap, apply, step, read, levelQueue, fresh, settle, applyOutcome, stepSettle, stepOutcome, tally, feedView, feedFigure, feedAll}
-use Rattle.ledger.specs.World.{perform, run, Lendable, freshWorld, volumeAt}
+use Rattle.reconstructor_view.specs.View.{viewRefusal, readRefusal}
+use Rattle.reconstructor_reads.specs.declared.Shown.the-variants.{Entries}
+use Rattle.reconstructor_reads.specs.declared.LevelAnswer.the-variants as levels
+use Rattle.reconstructor_reads.specs.Reads.{shown, levelRead, levelQueue, staleRead, staleL2}
+use Rattle.ledger.specs.Ledger.{Config, Call, bootstrap, apply, step, read, levelQueue as askQueue, fresh, settle, applyOutcome, stepSettle, stepOutcome, tally, feedView, feedFigure, feedAll}
+use Rattle.ledger.specs.World.{perform, run, lentRows, Lendable, freshWorld, volumeAt}
 use Rattle.ledger.specs.Kept.{keptAfter, kept}
 use Rattle.ledger.specs.Sum.{standingAt, valid, invalid, SumRule}
 use Rattle.ledger.proofs.Sum.{sum-rule}
@@ -90,14 +94,14 @@ before =
     -- re-sent from before the snapshot: dropped
     step (lent 24 2) handshake (at 100 (Open (id 3) Buy (pos 10) (pos 5))) ∷
     step (lent 24 2) handshake opened ∷
-    read (levelQueue 24 3 Buy (pos 10) 10) ∷
+    read (askQueue 24 3 Buy (pos 10) 10) ∷
     []
 
 abbrev after : List Call
 after =
     -- the same message again: 21
     step (lent 26 2) handshake opened ∷
-    read (levelQueue 24 3 Buy (pos 10) 10) ∷
+    read (askQueue 24 3 Buy (pos 10) 10) ∷
     -- 6: no room for a record; 17
     bootstrap (lent 24 1) (snapshot 200 (order 1 10 4 ∷ []) []) ∷
     apply (lent 24 2) matched ∷
@@ -118,6 +122,9 @@ pub record Worked : Type 0 where
   -- A's 4, less 1
   end-volume : volumeAt Buy 10 (run (freshWorld config words records) (before ++ (after ++ recovered))) ≡ 3
   end-figure : feedAll config fresh (before ++ (after ++ recovered)) .figure Buy 10 ≡ 3
+  -- a read of the one and a stale read of the other say so; another read of it is turned away
+  before-read : levelQueue ceiling (run (freshWorld config words records) before .book) (lentRows (lent 24 2) (run (freshWorld config words records) before)) (5 ∷ 5 ∷ 5 ∷ []) Buy (pos 10) (replicate 10 4) .answer ≡ levels.Shown (Entries 2)
+  after-stale : staleL2 ceiling (run (freshWorld config words records) (before ++ after) .book) (lentRows (lent 24 2) (run (freshWorld config words records) (before ++ after))) (5 ∷ 5 ∷ 5 ∷ []) Buy (replicate 3 4) .out ≡ 10 ∷ 7 ∷ 4 ∷ []
   -- what counts
   counts : kept config (before ++ (after ++ recovered)) ≡ recovered
   rule : SumRule config words records (before ++ (after ++ recovered))
@@ -126,7 +133,7 @@ fits : Lendable 26 16 (before ++ (after ++ recovered))
 fits = ((omega arith, omega arith), ((omega arith, omega arith), ((omega arith, omega arith), ((omega arith, omega arith), ((omega arith, omega arith), ((omega arith, omega arith), ((omega arith, omega arith), ((omega arith, omega arith), ((omega arith, omega arith), ((omega arith, omega arith), tt))))))))))
 
 pub worked : Worked
-unfolding perform applied stepped settledStep stepRefusal bootstrapped gated settled recorded acceptedCore acceptedReply invalidatedReply refusedReply turnRefusal gateRefusal admitRefusal stateRefusal broken eventDeed counterOf effect eventRefusal makerRefusal openRefusal check first saturated setSegment rowsFrom stored sideOf rowBroken inRange optionalInRange eventInRange differs givenDiffers absentOrDiffers sameId sameProduct closed bootRefusal acceptRefusal snapshotRefusal lineRefusal readSnapshot snapshotShaped snapshotOf bidsAt asksAt ordersFrom orderAt orderFrom amountAt wordAt orderIdAt productIdAt part little big littleBytes bigBytes orderInRange ordersInRange feedView feedFigure tally applyOutcome settle stepOutcome stepSettle keptAfter
+unfolding perform applied stepped settledStep stepRefusal bootstrapped gated settled recorded acceptedCore acceptedReply invalidatedReply refusedReply turnRefusal gateRefusal admitRefusal stateRefusal broken eventDeed counterOf effect eventRefusal makerRefusal openRefusal check first saturated setSegment rowsFrom stored sideOf rowBroken inRange optionalInRange eventInRange differs givenDiffers absentOrDiffers sameId sameProduct closed bootRefusal acceptRefusal snapshotRefusal lineRefusal readSnapshot snapshotShaped snapshotOf bidsAt asksAt ordersFrom orderAt orderFrom amountAt wordAt orderIdAt productIdAt part little big littleBytes bigBytes orderInRange ordersInRange viewRefusal readRefusal levelRead staleRead shown feedView feedFigure tally applyOutcome settle stepOutcome stepSettle keptAfter
 worked =
     record {
       lendable = fits;
@@ -135,6 +142,8 @@ worked =
       after-volume = refl;
       after-standing = refl;
       end-volume = refl;
+      before-read = refl;
+      after-stale = refl;
       end-figure = refl;
       counts = refl;
       rule = sum-rule config words records (before ++ (after ++ recovered)) fits;

@@ -22,7 +22,7 @@ use Rattle.reconstructor_checks.proofs.Own.{sound, rows-lent, segments-lent, ha
 use Rattle.reconstructor_plan.specs.Rules.{eventDeed}
 use Rattle.reconstructor.specs.Refusals.{admitRefusal, turnRefusal}
 use Rattle.reconstructor.specs.Applied.{refusedReply, invalidatedReply, acceptedReply, accepted as acceptedCore, recorded, settled, gated, bookGate, applied}
-use Rattle.reconstructor.proofs.Kept.{usable-kept}
+use Rattle.reconstructor.proofs.Kept.{recorded-length, usable-kept}
 use Rattle.reconstructor.proofs.Laws.{gate-trusted, admitted-valid}
 use Rattle.reconstructor_bootstrap.specs.declared.SnapshotAnswer.{SnapshotAnswer}
 use Rattle.reconstructor_bootstrap.specs.Snapshot.{snapshotLine}
@@ -53,10 +53,9 @@ module _ (b : BookReconstructor) (ws sg : List ℕ) (u : Usable ceiling b ws sg)
 
   module _ (g : admitRefusal (b .«product_id») (b .status) m ≡ none) where
     record-size : (a : ApplyAnswer) → length (recorded sg (b .segments) m a) ≡ length sg
-    unfolding recorded
     record-size a =
         let one : 0 < b .segments = has-segment b (lastOf (b .status)) (admitted-valid (b .«product_id») (b .status) m g) (sound b ws (u .sound) .set) in
-        length-set-segment sg (b .segments - 1) _ (omega (arith, segments-lent b ws sg (u .lent)))
+        recorded-length sg (b .segments) m a one (omega (arith, segments-lent b ws sg (u .lent)))
 
     rows-size : (t : Option InvalidationKind) → settled b ws (lastOf (b .status)) m t .book .rows ≤ b .rules .«max_orders»
         → length (settled b ws (lastOf (b .status)) m t .rows) ≡ length ws

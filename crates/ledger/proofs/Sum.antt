@@ -18,7 +18,7 @@ use Rattle.ledger.proofs.Accept.{all-tallies, fresh-tallies}
 use Rattle.ledger.proofs.Follow.{never-three, viewAll, follow-all, fresh-follows, line-is}
 use Rattle.ledger.proofs.Replay.{all-repeats}
 use Rattle.ledger.proofs.Stale.{Stale, stale-line}
-use Rattle.ledger.proofs.Said.{queue-said-of, profile-said-of, stale-said-of, no-view}
+use Rattle.ledger.proofs.Said.{queue-said-of, profile-said-of, stale-said-of, turned-away}
 
 feed-view : (c : Config) (l : Ledger) (ks : List Call) → feedAll c l ks .view ≡ viewAll c (l .view) ks
 feed-view c l [] = refl
@@ -58,7 +58,7 @@ module _ (c : Config) (ws sg : List ℕ) where
             profile-said-of (w .book) (w .rows) n sc s out k h
             ∙ figures-are ks l s (prices s (lineAt w))
             ∙ ap (λ (x : List Entry). figuresOf s (prices s x) (feedAll c fresh ks .figure)) (ledger-line ks l);
-        turned-away = λ h n short q. no-view (w .book) (take n (w .rows)) short h q;
+        turned-away = λ h n. turned-away (w .book) (take n (w .rows)) h;
       }
 
   pub sum-rule : (ks : List Call) → Lendable (length ws) (length sg) ks → SumRule c ws sg ks

@@ -9,10 +9,9 @@ use mathlib.Core.List.{List, [], _∷_, _++_}
 use mathlib.Core.Option.{Option, none, some}
 use lib.Dec.{eqb}
 use lib.IntN.{ℤ, pos, negsuc}
-use borrow.Author.Tests.{eqb-true, ltb-false}
+use borrow.Author.Tests.{eqb-true, ltb-false, not-false}
 use Rattle.laws.proofs.Bools.{or-no}
 use Rattle.message.specs.declared.L3Side.{L3Side}
-use Rattle.message.specs.declared.L3Side.the-variants.{Buy, Sell}
 use Rattle.message.specs.declared.OrderId.{OrderId}
 use Rattle.message.specs.declared.OptionalAmount.{OptionalAmount}
 use Rattle.message.specs.declared.OptionalAmount.the-variants.{Absent, Given}
@@ -22,6 +21,7 @@ use Rattle.message.specs.declared.L3Event.the-variants.{Received, Open, Done, M
 use Rattle.message.specs.Same.{sameSide, sameId}
 use Rattle.message.specs.Amounts.{natOf, differs}
 use Rattle.book.specs.Line.{Entry, sameLevel, volume, find, left, cut}
+use Rattle.book.proofs.Moves.{same-sides}
 use Rattle.reconstructor_state.specs.declared.VenueRules.{VenueRules}
 use Rattle.reconstructor_state.proofs.Checks.{passed}
 use Rattle.reconstructor_plan.specs.Rules.{eventRefusal, makerRefusal, changeRefusal, sizeRefusal, sizeGiven, keep, cutTo, effect, doneEffect, matchEffect, changeEffect, lineBy, entryFor}
@@ -68,12 +68,6 @@ volume-cut s p d r (a ∷ l) e q h = go (sameId (a .id) d) q (volume-cut s p d r
 unfoldable pub Tallies : Figure → List Entry → Type 0
 Tallies f l = (s : L3Side) (p : ℕ) → f s p ≡ volume s p l
 
-side-is : (a b : L3Side) → not (sameSide a b) ≡ false → a ≡ b
-side-is Buy Buy h = refl
-side-is Buy Sell h = cc
-side-is Sell Buy h = cc
-side-is Sell Sell h = refl
-
 price-is : (x : ℤ) (n : ℕ) → differs x n ≡ false → natOf x ≡ n
 unfolding differs
 price-is (pos m) n h = same (eqb m n) refl h
@@ -115,7 +109,7 @@ matched l f m s p q e t o h =
     let h₂ = passed _ _ _ (h₁ .1) in
     let h₃ = passed _ _ _ (h₂ .1) in
     let d = or-no (not (sameSide (e .side) s)) (differs p (e .price)) (h₁ .0) in
-    let x : e .side ≡ s = side-is (e .side) s (d .0) in
+    let x : e .side ≡ s = same-sides (e .side) s (not-false (sameSide (e .side) s) (d .0)) in
     let y : natOf p ≡ e .price = price-is p (e .price) (d .1) in
     let z : e .remaining - (e .remaining - q) ≡ q = omega (arith, ltb-false (e .remaining) q (h₃ .0)) in
     rw (y, ← x) (rw z at (cut-tallies l f m (e .remaining - q) e t o (omega arith)))

@@ -90,7 +90,7 @@ stale-rows top b ws sg m i h = gated-stale b ws sg m (bookGate top b ws sg m) i 
 
 -- ---- a usable state stays usable
 
-recorded-length : (sg : List ℕ) (n : ℕ) (m : L3Message) (a : ApplyAnswer) → 0 < n → 8 * n ≤ length sg → length (recorded sg n m a) ≡ length sg
+pub recorded-length : (sg : List ℕ) (n : ℕ) (m : L3Message) (a : ApplyAnswer) → 0 < n → 8 * n ≤ length sg → length (recorded sg n m a) ≡ length sg
 unfolding recorded
 recorded-length sg n m a p h = length-set-segment sg (n - 1) _ (omega arith)
 
@@ -103,7 +103,7 @@ let-through : (b : BookReconstructor) (m : L3Message) → admitRefusal (b .«pro
 unfolding admitRefusal
 let-through b m h = not-false (eventInRange (m .event)) (passed _ _ _ h .0)
 
-turn-event : (v : VenueRules) (l : List Entry) (last : ℕ) (m : L3Message) → turnRefusal v l last m ≡ none → eventRefusal v l (m .event) ≡ none
+pub turn-event : (v : VenueRules) (l : List Entry) (last : ℕ) (m : L3Message) → turnRefusal v l last m ≡ none → eventRefusal v l (m .event) ≡ none
 unfolding turnRefusal
 turn-event v l last m h = first-passed _ _ _ (passed _ _ _ (passed _ _ _ (passed _ _ _ h .1) .1) .1) .0
 

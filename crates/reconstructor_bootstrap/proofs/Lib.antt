@@ -3,4 +3,3 @@ pub mod Filled
 pub mod Vetted
 pub mod Whole
 pub mod Laws
-pub mod Examples

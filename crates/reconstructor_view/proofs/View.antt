@@ -3,19 +3,17 @@
 use Prim.Native.Nat.{ℕ, _*_, _≤_}
 use mathlib.Core.Path.{_≡_, refl}
 use mathlib.Core.Bool.{Bool, false}
-use mathlib.Core.List.{List, [], _∷_}
+use mathlib.Core.List.{List}
 use mathlib.Core.Option.{Option, none, some}
 use native.Mathlib.Omega.{arith}
-use borrow.Author.Tests.{ltb-false, ne-eqb}
-use lib.Dec.{ltb, eqb}
+use borrow.Author.Tests.{ltb-false}
+use lib.Dec.{ltb}
 use lib.ListN.{length}
-use Rattle.laws.proofs.Bools.{or-no, or-both}
-use Rattle.book.specs.declared.Resting.{Resting}
+use Rattle.laws.proofs.Bools.{or-no}
 use Rattle.book.specs.Rows.{ceiling, rowsOf, Lent}
-use Rattle.book.specs.Broken.{someRowBroken, rowBroken}
-use Rattle.book.proofs.Kept.{sound-row}
 use Rattle.book_valid.specs.declared.AuditAnswer.the-variants.{Ok}
-use Rattle.book_valid.specs.Audit.{someEmpty, auditRows}
+use Rattle.book_valid.specs.Audit.{auditRows}
+use Rattle.book_valid.proofs.Audited.{rows-ok}
 use Rattle.reconstructor_state.specs.declared.BookReconstructor.{BookReconstructor}
 use Rattle.reconstructor_state.proofs.Checks.{passed, first-passed}
 use Rattle.reconstructor_checks.proofs.Own.{Sound, sound, orders-within}
@@ -68,13 +66,5 @@ read-lent b ws short r = record { room = omega (arith, r .sound .few, r .lent); 
 
 -- ---- an audit finds nothing
 
-none-empty : (os : List Resting) → someRowBroken os ≡ false → someEmpty os ≡ false
-none-empty [] h = refl
-none-empty (o ∷ os) h =
-    let k = or-no (rowBroken o) (someRowBroken os) h in
-    let z : o .remaining ≡ 0 → ⊥ = λ e. omega (arith, e, sound-row o (k .0) .remaining .low) in
-    or-both (eqb (o .remaining) 0) (someEmpty os) (ne-eqb (o .remaining) 0 z) (none-empty os (k .1))
-
 pub audit-ok : (b : BookReconstructor) (ws : List ℕ) (short : Bool) → Readable b ws short → auditRows (rowsOf ws (b .rows)) ≡ Ok
-audit-ok b ws short r =
-    rw (none-empty (rowsOf ws (b .rows)) (r .sound .formed .sound), r .sound .formed .single, r .sound .formed .apart)
+audit-ok b ws short r = rows-ok _ _ (rowsOf ws (b .rows)) (r .sound .formed)

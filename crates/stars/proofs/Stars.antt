@@ -1,5 +1,5 @@
 -- 01's table and figures on its book E, by computation: lists of calls with the number that each must give (stars: 13, 20, 21, 22, 30, 31, 33, 35, 36, 41),
--- and the figures C1, C2 and C3. 9 is a handshake's, and comes with it.
+-- and the figures C1, C2 and C3. Snapshots.antt has those that a snapshot can meet.
 -- Assumes nothing.
 use Prim.Native.Nat.{ℕ}
 use mathlib.Core.Path.{_≡_, refl}
@@ -14,7 +14,7 @@ use Rattle.message.specs.declared.ChangeReason.the-variants.{Stp}
 use Rattle.message.specs.declared.L3Event.{L3Event}
 use Rattle.message.specs.declared.L3Event.the-variants.{Received, Open, Done, Match, Change, Unsupported}
 use Rattle.message.specs.declared.L3Message.{L3Message}
-use Rattle.message.specs.Values.{inRange, optionalInRange, eventInRange, orderInRange, ordersInRange}
+use Rattle.message.specs.Values.{inRange, optionalInRange, eventInRange}
 use Rattle.message.specs.Same.{sameId, sameProduct}
 use Rattle.message.specs.Amounts.{differs, givenDiffers, absentOrDiffers}
 use Rattle.book.specs.Line.{volume}
@@ -34,14 +34,12 @@ use Rattle.reconstructor_plan.specs.Rules.{openRefusal, doneRefusal, makerRefus
 use Rattle.reconstructor.specs.Refusals.{admitRefusal, gateRefusal, turnRefusal}
 use Rattle.reconstructor.specs.Applied.{Parts, refusedReply, invalidatedReply, acceptedReply, accepted, recorded, settled, gated, applied}
 use Rattle.reconstructor_answers.specs.declared.ApplyAnswer.the-variants as answers
-use mathlib.Core.Bool.{false}
-use Rattle.message.specs.declared.SnapshotOrder.{SnapshotOrder}
-use Rattle.piece.specs.Bytes.{part, little, big, littleBytes, bigBytes}
-use Rattle.piece.specs.Piece.{readSnapshot, snapshotShaped, snapshotOf, bidsAt, asksAt, ordersFrom, orderAt, orderFrom, amountAt, wordAt, orderIdAt, productIdAt}
-use Rattle.piece.specs.Encode.{snapshotBytes}
-use Rattle.reconstructor_bootstrap.specs.Numbers.{snapshotNumber}
-use Rattle.reconstructor_bootstrap.specs.Snapshot.{lineRefusal, snapshotRefusal, acceptRefusal, bootRefusal}
-use Rattle.reconstructor_bootstrap.specs.Bootstrap.{Parts as SnapshotParts, bootstrapped, closed}
+use Rattle.reconstructor_answers.specs.declared.Applied.the-variants.{NoBookEffect}
+use mathlib.Core.Bool.{Bool, true, false}
+use Rattle.reconstructor_handshake.specs.declared.Handshake.{Handshake}
+use Rattle.reconstructor_handshake.specs.declared.StepAnswer.{StepAnswer}
+use Rattle.reconstructor_handshake.specs.declared.StepAnswer.the-variants.{Stepped, Dropped, OtherSegment}
+use Rattle.reconstructor_handshake.specs.Step.{StepParts, stepRefusal, settledStep, stepped}
 use Rattle.reconstructor_view.specs.declared.Audited.{Audited}
 use Rattle.reconstructor_view.specs.declared.Audited.the-variants as audits
 use Rattle.reconstructor_view.specs.Numbers.{viewErrorNumber}
@@ -58,6 +56,7 @@ use Rattle.queue.specs.declared.AheadAnswer.{AheadAnswer}
 use Rattle.queue.specs.declared.AheadAnswer.the-variants as queues
 use Rattle.queue.specs.Numbers.{estimateNumber, aheadNumber}
 use Rattle.queue.specs.Ahead.{entriesFrom}
+use Rattle.stars.proofs.Snapshots.{Examples, examples}
 use Rattle.queue.specs.Estimates.{ownViewed, queueEstimateOwn, aheadRefusal, tallied, aheadOf, volumeAhead}
 
 -- ---- E: "the book of product P, limits 3 and 3, snapshot at 100: buy A price 10 size 2, sell B price 12 size 3 (units)"
@@ -185,32 +184,27 @@ table =
     row 44 (onE (now (Unsupported 7))) ∷
     []
 
--- ---- snapshots
+-- ---- steps
 
-abbrev order : ℕ → ℕ → ℕ → SnapshotOrder
-order k price size = record { «order_id» = id k; price = pos price; size = pos size }
+-- a handshake for E's segment, that has ended or not, and one for another book's
+abbrev handshake : ℕ → Bool → Handshake
+handshake number ended = record { segment = record { number = number; place = 0 }; ended = ended; applied = 0 }
 
-abbrev snapshot : List SnapshotOrder → List SnapshotOrder → List ℕ
-snapshot bids asks = snapshotBytes (record { «product_id» = product 80; sequence = 100; bids = bids; asks = asks })
+abbrev stepE : Handshake → L3Message → StepParts
+stepE h m = stepped ceiling h (book (Valid 100) 3 2 1) rowsE listE m
 
--- a fresh book of product P, limits 3 and 3, lent so many words of a list, and a snapshot piece
-abbrev load : List ℕ → List ℕ → SnapshotParts
-load list bytes = bootstrapped ceiling (book Empty 3 0 0) rowsE list bytes
+-- "step after 16": what the first step left, stepped again
+abbrev again : StepParts → L3Message → StepParts
+again p m = stepped ceiling (p .handshake) (p .book) (p .rows) (p .segments) m
 
-pub record Load : Type 0 where
-  pub number : ℕ
-  pub list : List ℕ
-  pub bytes : List ℕ
-
-abbrev snapshots : List Load
-snapshots =
-    record { number = 0; list = listE; bytes = snapshot (order 1 10 2 ∷ []) (order 2 12 3 ∷ []) } ∷
-    record { number = 4; list = listE; bytes = [] } ∷
-    record { number = 6; list = []; bytes = snapshot (order 1 10 2 ∷ []) [] } ∷
-    record { number = 11; list = listE; bytes = snapshot (order 1 10 2 ∷ order 1 10 2 ∷ []) [] } ∷
-    record { number = 12; list = listE; bytes = snapshot (order 1 10 0 ∷ []) [] } ∷
-    record { number = 13; list = listE; bytes = snapshot (order 1 5 2 ∷ []) (order 2 5 3 ∷ []) } ∷
-    record { number = 14; list = listE; bytes = snapshot (order 1 10 2 ∷ order 2 10 2 ∷ order 3 10 2 ∷ order 4 10 2 ∷ []) [] } ∷
+-- 9, of a handshake that 16 ended, of one that is of another book; a message of before the snapshot is dropped, one of after it applied
+abbrev steps : List StepAnswer
+steps =
+    again (stepE (handshake 1 false) (now (Unsupported 7))) (now (Received z Buy)) .answer ∷
+    stepE (handshake 2 false) (now (Received z Buy)) .answer ∷
+    stepE (handshake 1 true) (now (Received z Buy)) .answer ∷
+    stepE (handshake 1 false) (at 100 (Received z Buy)) .answer ∷
+    stepE (handshake 1 false) (now (Received z Buy)) .answer ∷
     []
 
 -- ---- reads, on E and on what calls left
@@ -271,9 +265,10 @@ figure at volume orders =
     }
 
 pub record Stars : Type 0 where
-  -- every example of the table gives its number: of messages, of snapshots, of reads
+  -- every example of the table gives its number: of messages, of snapshots, of steps, of reads
   pub numbers : map (λ (r : Row). number (after (r .example) .answer)) table ≡ map (λ (r : Row). r .number) table
-  pub loads : map (λ (r : Load). snapshotNumber (load (r .list) (r .bytes) .answer)) snapshots ≡ map (λ (r : Load). r .number) snapshots
+  pub snapshots : Examples
+  pub steps : steps ≡ OtherSegment ∷ OtherSegment ∷ OtherSegment ∷ Dropped ∷ Stepped (answers.Applied NoBookEffect) ∷ []
   pub reads : reads ≡ 7 ∷ 8 ∷ 15 ∷ 18 ∷ 50 ∷ 51 ∷ 52 ∷ []
   -- C1: "E, open C buy 10 size 5 at 101: own estimate of C gives volume 2, from snapshot 2, observed 0, orders 1"
   pub c1 : aheadFrom (after opened .book) (after opened .rows) (own (after opened .book) (after opened .rows) o) [] ≡ queues.Ahead (figure 101 2 1)
@@ -289,5 +284,5 @@ pub record Stars : Type 0 where
   pub c3-applied : after canceled .book .status ≡ Valid 101
 
 pub stars : Stars
-unfolding applied gated settled recorded accepted acceptedReply invalidatedReply refusedReply turnRefusal gateRefusal admitRefusal stateRefusal broken eventDeed counterOf effect eventRefusal sizeRefusal changeRefusal makerRefusal doneRefusal openRefusal check first saturated setSegment rowsFrom stored sideOf rowBroken inRange optionalInRange eventInRange differs givenDiffers absentOrDiffers sameId sameProduct viewRefusal readRefusal auditedOf shown levelRead ownViewed aheadRefusal tallied aheadOf entriesFrom bootstrapped closed bootRefusal acceptRefusal snapshotRefusal lineRefusal readSnapshot snapshotShaped snapshotOf bidsAt asksAt ordersFrom orderAt orderFrom amountAt wordAt orderIdAt productIdAt part little big littleBytes bigBytes orderInRange ordersInRange
-stars = record { numbers = refl; loads = refl; reads = refl; c1 = refl; c2 = refl; c2-ahead = refl; c2-rows = refl; c2-list = refl; c3-rows = refl; c3-applied = refl }
+unfolding applied gated settled recorded accepted acceptedReply invalidatedReply refusedReply turnRefusal gateRefusal admitRefusal stateRefusal broken eventDeed counterOf effect eventRefusal sizeRefusal changeRefusal makerRefusal doneRefusal openRefusal check first saturated setSegment rowsFrom stored sideOf rowBroken inRange optionalInRange eventInRange differs givenDiffers absentOrDiffers sameId sameProduct viewRefusal readRefusal auditedOf shown levelRead ownViewed aheadRefusal tallied aheadOf entriesFrom stepped settledStep stepRefusal
+stars = record { numbers = refl; snapshots = examples; steps = refl; reads = refl; c1 = refl; c2 = refl; c2-ahead = refl; c2-rows = refl; c2-list = refl; c3-rows = refl; c3-applied = refl }

@@ -81,12 +81,12 @@ abbrev numberFresh : ℕ → ℕ → List SnapshotOrder → List SnapshotOrder �
 numberFresh orders levels bids asks =
     number (bootstrapped ceiling (fresh orders levels) any any (piece productP 100 bids asks))
 
-record Examples : Type 0 where
+pub record Examples : Type 0 where
   -- E is what its snapshot makes of a fresh book
-  made : bootstrapped ceiling (fresh 3 3) any (replicate 16 7) (piece productP 100 (orderA ∷ []) (orderB ∷ []))
+  pub made : bootstrapped ceiling (fresh 3 3) any (replicate 16 7) (piece productP 100 (orderA ∷ []) (orderB ∷ []))
       ≡ record { answer = Bootstrapped; book = bookE; rows = rowsE; segments = segmentsE }
   -- a second one supersedes its segment and zeroes the row that it no longer needs
-  again : onE segmentsE (piece productP 90 [] (orderA ∷ []))
+  pub again : onE segmentsE (piece productP 90 [] (orderA ∷ []))
       ≡ record {
         answer = Bootstrapped;
         book = record { «product_id» = productP; rules = limitedRules 3 3; number = 1; status = Valid 90; rows = 1; segments = 2; counts = noCounts };
@@ -94,10 +94,10 @@ record Examples : Type 0 where
         segments = 100 ∷ 100 ∷ 1 ∷ 0 ∷ 0 ∷ 0 ∷ 0 ∷ 0 ∷ 90 ∷ 90 ∷ 0 ∷ 0 ∷ 0 ∷ 0 ∷ 0 ∷ 0 ∷ [];
       }
   -- 13*: a refused one ends no good segment
-  kept : onE segmentsE (piece productP 101 (order 1 (pos 5) (pos 1) ∷ []) (order 2 (pos 5) (pos 1) ∷ []))
+  pub kept : onE segmentsE (piece productP 101 (order 1 (pos 5) (pos 1) ∷ []) (order 2 (pos 5) (pos 1) ∷ []))
       ≡ record { answer = Rejected Crossed; book = withCounts bookE (countedAt 11 noCounts); rows = rowsE; segments = segmentsE }
   -- 1, 2, 3, 4, 5, 6, 10, 11, 12, 14: the table's examples
-  numbers : (
+  pub numbers : (
       numberFresh 4097 3 (orderA ∷ []) (orderB ∷ []) ∷
       number (bootstrapped ceiling bookE (take 23 rowsE) segmentsE (piece productP 101 [] [])) ∷
       number (bootstrapped ceiling bookE (set rowsE 2 0) segmentsE (piece productP 101 [] [])) ∷
@@ -111,7 +111,7 @@ record Examples : Type 0 where
       []) ≡ 1 ∷ 2 ∷ 3 ∷ 4 ∷ 5 ∷ 6 ∷ 10 ∷ 11 ∷ 12 ∷ 14 ∷ []
   -- the order of the checks: 14 (orders) before 11; 11 before 12; 12 before 14 (levels); a level is a side and a price, so that 5 and 5 in one level
   -- is 14, and only then 13. C4: "amount 10^15 is accepted". An empty snapshot is accepted
-  orders : (
+  pub orders : (
       numberFresh 1 3 (orderA ∷ orderA ∷ []) [] ∷
       numberE (orderA ∷ order 1 (negsuc 0) (pos 1) ∷ []) [] ∷
       numberFresh 2 1 (orderA ∷ []) (order 2 (pos 12) (pos 0) ∷ []) ∷
@@ -122,6 +122,6 @@ record Examples : Type 0 where
       numberE [] [] ∷
       []) ≡ 14 ∷ 11 ∷ 12 ∷ 14 ∷ 13 ∷ 0 ∷ 0 ∷ 0 ∷ []
 
-examples : Examples
+pub examples : Examples
 unfolding check first stateRefusal broken rowBroken sideOf sameId sameProduct saturated rowsFrom stored setSegment inRange orderInRange ordersInRange part little big littleBytes bigBytes wordAt amountAt orderIdAt productIdAt bidsAt asksAt snapshotShaped orderFrom orderAt ordersFrom snapshotOf readSnapshot lineRefusal snapshotRefusal acceptRefusal bootRefusal closed bootstrapped
 examples = record { made = refl; again = refl; kept = refl; numbers = refl; orders = refl }
