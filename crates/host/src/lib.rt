@@ -1,43 +1,14 @@
 // The library as Rust and C call it: functions on numbers and slices, each answering a number of 01's table, 0 for success (of a message that changed the
 // book, 256). A slice is lent as a pointer and a length; what one call is lent does not overlap.
 use book_valid::rows_broken;
-use host_handshake::load_handshake;
-use host_handshake::step_number;
-use host_handshake::step_sets_status;
-use host_handshake::store_handshake;
-use host_reads::audit_number;
-use host_reads::load_estimate;
-use host_reads::store_ahead;
-use host_reads::store_best;
-use host_reads::store_estimate;
-use host_reads::store_last;
-use host_reads::store_level;
-use host_reads::store_stale;
-use host_words::apply_number;
-use host_words::bits;
-use host_words::event_words;
-use host_words::kind_word;
-use host_words::load_book;
-use host_words::load_message;
-use host_words::load_side;
-use host_words::put;
-use host_words::sets_status;
-use host_words::signed;
-use host_words::store_book;
-use message::OrderId;
-use piece::ReadMessage;
-use piece::ReadSnapshot;
-use piece::read_message;
-use piece::read_snapshot;
-use piece::snapshot_order;
-use reconstructor_handshake::Handshake;
 ghost use mathlib.Core.Path.{_≡_};
 ghost use Rattle.piece.specs.Piece.{readMessage, readSnapshot, orderAt};
 ghost use Rattle.book.specs.Broken.{wordsBroken};
-ghost use Rattle.host.specs.Reads.{messageNumber, messageOut, snapshotNumber, snapshotOut, orderNumber, orderOut};
+ghost use Rattle.host_pieces.specs.Pieces.{messageNumber, messageOut, snapshotNumber, snapshotOut, orderNumber, orderOut};
 ghost use Rattle.host_reads.specs.Answers.{answered};
-ghost use Rattle.host.specs.Calls.{called, applyCall, bootstrapCall, handshakeCall, stepCalled, stepCall};
-ghost use Rattle.host.specs.Views.{lastCall, bestCall, auditCall, levelCalled, queueCall, profileCall, l2Call, staleCall, estimateCalled, estimateCall, ownCall, aheadCall};
+ghost use Rattle.host_calls.specs.Calls.{called, applyCall, bootstrapCall, handshakeCall, stepCalled, stepCall};
+ghost use Rattle.host_views.specs.Views.{lastCall, bestCall, auditCall, invalidationCall, segmentCall, levelCalled, queueCall, profileCall, l2Call, staleCall};
+ghost use Rattle.host_estimates.specs.Estimates.{estimateCalled, estimateCall, ownCall, aheadCall};
 
 // Reads a message piece into 21 words: kind, product (two), sequence, time, then the event's fields.
 #[no_mangle]
@@ -45,29 +16,7 @@ pub extern "C" fn pinuglaw_read_message(bytes: &[u8], out: &mut [u64]) -> u64
     ensures number { λ r. ⌜ r ≡ messageNumber (now (out .entry)) (readMessage (now (bytes .entry))) ⌝ }
     ensures words { λ r. ⌜ now (out .exit) ≡ messageOut (now (out .entry)) (readMessage (now (bytes .entry))) ⌝ }
 {
-    match read_message(bytes) {
-        ReadMessage::Message(m) => {
-            if out.len() < 21 {
-                return 7;
-            }
-            let event = m.event;
-            let product = m.product_id;
-            put(
-                out,
-                0,
-                &[
-                    kind_word(event),
-                    product.high,
-                    product.low,
-                    m.sequence,
-                    m.time_us,
-                ],
-            );
-            put(out, 5, &event_words(event));
-            0
-        }
-        ReadMessage::Refused(e) => e.number(),
-    }
+    host_pieces::read_message(bytes, out)
 }
 
 // Reads a snapshot piece into 5 words: product (two), sequence, number of bids, number of asks.
@@ -76,27 +25,7 @@ pub extern "C" fn pinuglaw_read_snapshot(bytes: &[u8], out: &mut [u64]) -> u64
     ensures number { λ r. ⌜ r ≡ snapshotNumber (now (out .entry)) (readSnapshot (now (bytes .entry))) ⌝ }
     ensures words { λ r. ⌜ now (out .exit) ≡ snapshotOut (now (out .entry)) (readSnapshot (now (bytes .entry))) ⌝ }
 {
-    match read_snapshot(bytes) {
-        ReadSnapshot::Snapshot(v) => {
-            if out.len() < 5 {
-                return 7;
-            }
-            let product = v.product_id;
-            put(
-                out,
-                0,
-                &[
-                    product.high,
-                    product.low,
-                    v.sequence,
-                    v.bids as u64,
-                    v.asks as u64,
-                ],
-            );
-            0
-        }
-        ReadSnapshot::Refused(e) => e.number(),
-    }
+    host_pieces::read_snapshot(bytes, out)
 }
 
 // Reads the order at a place of a snapshot piece into 4 words: id (two), price, size.
@@ -105,17 +34,7 @@ pub extern "C" fn pinuglaw_snapshot_order(bytes: &[u8], place: usize, out: &mut 
     ensures number { λ r. ⌜ r ≡ orderNumber (now (out .entry)) ⌝ }
     ensures words { λ r. ⌜ now (out .exit) ≡ orderOut (now (out .entry)) (orderAt (now (bytes .entry)) place) ⌝ }
 {
-    if out.len() < 4 {
-        return 7;
-    }
-    let order = snapshot_order(bytes, place);
-    let id = order.order_id;
-    put(
-        out,
-        0,
-        &[id.high, id.low, bits(order.price), bits(order.size)],
-    );
-    0
+    host_pieces::snapshot_order(bytes, place, out)
 }
 
 // Whether `n` rows are no book: number 3's part on the rows.
@@ -138,17 +57,7 @@ pub extern "C" fn pinuglaw_apply(
 ) -> u64
     ensures { λ r. ⌜ called r (now (state .exit)) (now (rows .exit)) (now (segments .exit)) ≡ applyCall (now (state .entry)) (now (rows .entry)) (now (segments .entry)) (now (message .entry)) ⌝ }
 {
-    if state.len() < 27 {
-        return 7;
-    }
-    if message.len() < 21 {
-        return 7;
-    }
-    let reply = reconstructor::apply(load_book(state), rows, segments, load_message(message));
-    let book = reply.book;
-    let answer = reply.answer;
-    store_book(state, book, sets_status(answer));
-    apply_number(answer)
+    host_calls::apply(state, rows, segments, message)
 }
 
 // Takes the snapshot piece in `bytes` for that book. Answers 0 or 01's number; 7, and touches nothing, where fewer than 27 words of state are lent.
@@ -162,15 +71,7 @@ pub extern "C" fn pinuglaw_bootstrap(
 ) -> u64
     ensures { λ r. ⌜ called r (now (state .exit)) (now (rows .exit)) (now (segments .exit)) ≡ bootstrapCall (now (state .entry)) (now (rows .entry)) (now (segments .entry)) (now (bytes .entry)) ⌝ }
 {
-    if state.len() < 27 {
-        return 7;
-    }
-    let reply = reconstructor_bootstrap::bootstrap(load_book(state), rows, segments, bytes);
-    let book = reply.book;
-    let answer = reply.answer;
-    let number = answer.number();
-    store_book(state, book, number == 0);
-    number
+    host_calls::bootstrap(state, rows, segments, bytes)
 }
 
 // A handshake for the segment that the book is in, into four words; crate `host_handshake` has the layout in specs/Steps.antt. Answers 0; 7, and writes
@@ -179,11 +80,7 @@ pub extern "C" fn pinuglaw_bootstrap(
 pub extern "C" fn pinuglaw_handshake(state: &[u64], handshake: &mut [u64]) -> u64
     ensures { λ r. ⌜ answered r (now (handshake .exit)) ≡ handshakeCall (now (state .entry)) (now (handshake .entry)) ⌝ }
 {
-    if (state.len() < 27) | (handshake.len() < 4) {
-        return 7;
-    }
-    store_handshake(handshake, Handshake::new(load_book(state)));
-    0
+    host_calls::new_handshake(state, handshake)
 }
 
 // Steps a handshake by a message of 21 words. Answers as `pinuglaw_apply` does, 512 where the message was dropped, and 9 where the handshake has ended or is
@@ -198,34 +95,18 @@ pub extern "C" fn pinuglaw_step(
 ) -> u64
     ensures { λ r. ⌜ stepCalled r (now (state .exit)) (now (rows .exit)) (now (segments .exit)) (now (handshake .exit)) ≡ stepCall (now (state .entry)) (now (rows .entry)) (now (segments .entry)) (now (handshake .entry)) (now (message .entry)) ⌝ }
 {
-    if (state.len() < 27) | ((handshake.len() < 4) | (message.len() < 21)) {
-        return 7;
-    }
-    let reply = load_handshake(handshake).step(
-        load_book(state),
-        rows,
-        segments,
-        load_message(message),
-    );
-    let answer = reply.answer;
-    store_book(state, reply.book, step_sets_status(answer));
-    store_handshake(handshake, reply.handshake);
-    step_number(answer)
+    host_calls::step(state, rows, segments, handshake, message)
 }
 
 // ---- reads. Each answers 0 or 01's number, and 7, writing nothing, where a part is shorter than its fixed size: 27 words of state, 8 of an estimate, 7 of a
-// volume ahead, 1 for a count or a sequence, 4 for the best prices.
+// volume ahead, 1 for a count or a sequence, 4 for the best prices, 6 for an invalidation, 10 for a segment.
 
 // The last sequence applied, into one word.
 #[no_mangle]
 pub extern "C" fn pinuglaw_last_sequence(state: &[u64], rows: &[u64], out: &mut [u64]) -> u64
     ensures { λ r. ⌜ answered r (now (out .exit)) ≡ lastCall (now (state .entry)) (now (rows .entry)) (now (out .entry)) ⌝ }
 {
-    if (state.len() < 27) | (out.len() < 1) {
-        return 7;
-    }
-    let answer = reconstructor_view::last_sequence(load_book(state), rows);
-    store_last(out, answer)
+    host_views::last_sequence(state, rows, out)
 }
 
 // The best bid and ask, into four words: whether there is one, and its price, of each.
@@ -233,11 +114,7 @@ pub extern "C" fn pinuglaw_last_sequence(state: &[u64], rows: &[u64], out: &mut 
 pub extern "C" fn pinuglaw_best(state: &[u64], rows: &[u64], out: &mut [u64]) -> u64
     ensures { λ r. ⌜ answered r (now (out .exit)) ≡ bestCall (now (state .entry)) (now (rows .entry)) (now (out .entry)) ⌝ }
 {
-    if (state.len() < 27) | (out.len() < 4) {
-        return 7;
-    }
-    let answer = reconstructor_view::best(load_book(state), rows);
-    store_best(out, answer)
+    host_views::best(state, rows, out)
 }
 
 // The audit of a valid book.
@@ -245,10 +122,30 @@ pub extern "C" fn pinuglaw_best(state: &[u64], rows: &[u64], out: &mut [u64]) ->
 pub extern "C" fn pinuglaw_audit(state: &[u64], rows: &[u64]) -> u64
     ensures { λ r. ⌜ r ≡ auditCall (now (state .entry)) (now (rows .entry)) ⌝ }
 {
-    if state.len() < 27 {
-        return 7;
-    }
-    audit_number(reconstructor_view::audit(load_book(state), rows))
+    host_views::audit(state, rows)
+}
+
+// The invalidation in force, into six words: last_good_seq, first_offending_seq, the reason's number, and its words 10 to 12 of a state. Answers 256, writing
+// nothing, where the book is not invalid.
+#[no_mangle]
+pub extern "C" fn pinuglaw_invalidation(state: &[u64], out: &mut [u64]) -> u64
+    ensures { λ r. ⌜ answered r (now (out .exit)) ≡ invalidationCall (now (state .entry)) (now (out .entry)) ⌝ }
+{
+    host_views::invalidation(state, out)
+}
+
+// The record of the segment at a place of the list, into ten words: its eight, its elapsed time, and how many messages it accepted. Answers 256, writing
+// nothing, where the book has none there or the list is too short for it.
+#[no_mangle]
+pub extern "C" fn pinuglaw_segment(
+    state: &[u64],
+    segments: &[u64],
+    place: usize,
+    out: &mut [u64],
+) -> u64
+    ensures { λ r. ⌜ answered r (now (out .exit)) ≡ segmentCall (now (state .entry)) (now (segments .entry)) place (now (out .entry)) ⌝ }
+{
+    host_views::segment(state, segments, place, out)
 }
 
 // The orders at a side (0 buy, else sell) and price (an amount's bits), five words each, and their number.
@@ -264,18 +161,7 @@ pub extern "C" fn pinuglaw_level_queue(
 ) -> u64
     ensures { λ r. ⌜ levelCalled r (now (scratch .exit)) (now (out .exit)) (now (count .exit)) ≡ queueCall (now (state .entry)) (now (rows .entry)) (now (scratch .entry)) side price (now (out .entry)) (now (count .entry)) ⌝ }
 {
-    if (state.len() < 27) | (count.len() < 1) {
-        return 7;
-    }
-    let answer = reconstructor_reads::level_queue(
-        load_book(state),
-        rows,
-        scratch,
-        load_side(side),
-        signed(price),
-        out,
-    );
-    store_level(count, answer)
+    host_views::level_queue(state, rows, scratch, side, price, out, count)
 }
 
 // The levels of a side, three words each, and their number.
@@ -290,17 +176,7 @@ pub extern "C" fn pinuglaw_priority_profile(
 ) -> u64
     ensures { λ r. ⌜ levelCalled r (now (scratch .exit)) (now (out .exit)) (now (count .exit)) ≡ profileCall (now (state .entry)) (now (rows .entry)) (now (scratch .entry)) side (now (out .entry)) (now (count .entry)) ⌝ }
 {
-    if (state.len() < 27) | (count.len() < 1) {
-        return 7;
-    }
-    let answer = reconstructor_reads::priority_profile(
-        load_book(state),
-        rows,
-        scratch,
-        load_side(side),
-        out,
-    );
-    store_level(count, answer)
+    host_views::priority_profile(state, rows, scratch, side, out, count)
 }
 
 // The levels of a side, two words each, and their number.
@@ -315,11 +191,7 @@ pub extern "C" fn pinuglaw_l2(
 ) -> u64
     ensures { λ r. ⌜ levelCalled r (now (scratch .exit)) (now (out .exit)) (now (count .exit)) ≡ l2Call (now (state .entry)) (now (rows .entry)) (now (scratch .entry)) side (now (out .entry)) (now (count .entry)) ⌝ }
 {
-    if (state.len() < 27) | (count.len() < 1) {
-        return 7;
-    }
-    let answer = reconstructor_reads::l2(load_book(state), rows, scratch, load_side(side), out);
-    store_level(count, answer)
+    host_views::l2(state, rows, scratch, side, out, count)
 }
 
 // The same of a book that is invalid; 256 of one that is not.
@@ -334,17 +206,7 @@ pub extern "C" fn pinuglaw_stale_l2(
 ) -> u64
     ensures { λ r. ⌜ levelCalled r (now (scratch .exit)) (now (out .exit)) (now (count .exit)) ≡ staleCall (now (state .entry)) (now (rows .entry)) (now (scratch .entry)) side (now (out .entry)) (now (count .entry)) ⌝ }
 {
-    if (state.len() < 27) | (count.len() < 1) {
-        return 7;
-    }
-    let answer = reconstructor_reads::stale_l2(
-        load_book(state),
-        rows,
-        scratch,
-        load_side(side),
-        out,
-    );
-    store_stale(count, answer)
+    host_views::stale_l2(state, rows, scratch, side, out, count)
 }
 
 // An estimate for an order created now at a side and price, into eight words, and the orders ahead of it, three words each.
@@ -359,17 +221,7 @@ pub extern "C" fn pinuglaw_queue_estimate(
 ) -> u64
     ensures { λ r. ⌜ estimateCalled r (now (ahead .exit)) (now (estimate .exit)) ≡ estimateCall (now (state .entry)) (now (rows .entry)) side price (now (ahead .entry)) (now (estimate .entry)) ⌝ }
 {
-    if (state.len() < 27) | (estimate.len() < 8) {
-        return 7;
-    }
-    let answer = queue::queue_estimate(
-        load_book(state),
-        rows,
-        load_side(side),
-        signed(price),
-        ahead,
-    );
-    store_estimate(estimate, answer)
+    host_estimates::queue_estimate(state, rows, side, price, ahead, estimate)
 }
 
 // An estimate for our own order, into eight words.
@@ -383,15 +235,7 @@ pub extern "C" fn pinuglaw_queue_estimate_own(
 ) -> u64
     ensures { λ r. ⌜ answered r (now (estimate .exit)) ≡ ownCall (now (state .entry)) (now (rows .entry)) «id_high» «id_low» (now (estimate .entry)) ⌝ }
 {
-    if (state.len() < 27) | (estimate.len() < 8) {
-        return 7;
-    }
-    let id = OrderId {
-        high: id_high,
-        low: id_low,
-    };
-    let answer = queue::queue_estimate_own(load_book(state), rows, id);
-    store_estimate(estimate, answer)
+    host_estimates::queue_estimate_own(state, rows, id_high, id_low, estimate)
 }
 
 // The volume ahead of an estimate, into seven words.
@@ -405,9 +249,5 @@ pub extern "C" fn pinuglaw_volume_ahead(
 ) -> u64
     ensures { λ r. ⌜ answered r (now (out .exit)) ≡ aheadCall (now (state .entry)) (now (rows .entry)) (now (estimate .entry)) (now (ahead .entry)) (now (out .entry)) ⌝ }
 {
-    if (state.len() < 27) | ((estimate.len() < 8) | (out.len() < 7)) {
-        return 7;
-    }
-    let answer = queue::volume_ahead(load_book(state), rows, load_estimate(estimate), ahead);
-    store_ahead(out, answer)
+    host_estimates::volume_ahead(state, rows, estimate, ahead, out)
 }

@@ -20,6 +20,14 @@ use Rattle.reconstructor_reads.specs.declared.LevelAnswer.the-variants as level
 use Rattle.reconstructor_reads.specs.declared.StaleAnswer.{StaleAnswer}
 use Rattle.reconstructor_reads.specs.declared.StaleAnswer.the-variants as stales
 use Rattle.reconstructor_answers.specs.Numbers.{stateErrorNumber}
+use Rattle.reconstructor_answers.specs.declared.Invalidation.{Invalidation}
+use Rattle.reconstructor_segments.specs.declared.Segment.{Segment}
+use Rattle.reconstructor_segments.specs.Segments.{elapsed, acceptedMessages}
+use Rattle.reconstructor_view.specs.declared.InvalidationAnswer.{InvalidationAnswer}
+use Rattle.reconstructor_view.specs.declared.InvalidationAnswer.the-variants as reasons
+use Rattle.reconstructor_view.specs.declared.SegmentAnswer.{SegmentAnswer}
+use Rattle.reconstructor_view.specs.declared.SegmentAnswer.the-variants as records
+use Rattle.host_words.specs.Block.{kindWords}
 
 -- the number, and the words afterwards
 pub record Answered : Type 0 where
@@ -77,3 +85,28 @@ abbrev pub staleAnswered : StaleAnswer → List ℕ → Answered
 staleAnswered stales.NotStale count = answered 256 count
 staleAnswered (stales.Shown s) count = shownAnswered s count
 staleAnswered (stales.Unusable e) count = answered (stateErrorNumber e) count
+
+-- ---- invalidation: six words, those of a state from 7 on. 256 where the book is not invalid
+
+abbrev pub invalidationWords : Invalidation → List ℕ
+invalidationWords i =
+    i .«last_good_seq» ∷
+    i .«first_offending_seq» ∷
+    kindWords (i .kind) .number ∷ kindWords (i .kind) .first ∷ kindWords (i .kind) .second ∷ kindWords (i .kind) .detail ∷ []
+
+abbrev pub invalidationAnswered : InvalidationAnswer → List ℕ → Answered
+invalidationAnswered (reasons.InForce i) out = answered 0 (written (invalidationWords i) out)
+invalidationAnswered reasons.NotInvalid out = answered 256 out
+
+-- ---- a segment's record: its eight words, its elapsed time, and how many messages it accepted. 256 where there is none
+
+abbrev pub recordWords : Segment → List ℕ
+recordWords g =
+    g .«start_seq» ∷
+    g .«last_good_seq» ∷
+    g .end ∷
+    g .«end_good» ∷ g .«end_seq» ∷ g .«end_detail» ∷ g .«first_us» ∷ g .«last_us» ∷ elapsed g ∷ acceptedMessages g ∷ []
+
+abbrev pub segmentAnswered : SegmentAnswer → List ℕ → Answered
+segmentAnswered (records.Record g) out = answered 0 (written (recordWords g) out)
+segmentAnswered records.NoRecord out = answered 256 out

@@ -2,6 +2,7 @@
 use book::BestPrice;
 use book_valid::AuditAnswer;
 use host_words::bits;
+use host_words::kind_words;
 use host_words::load_side;
 use host_words::put;
 use host_words::side_word;
@@ -19,11 +20,13 @@ use reconstructor_reads::StaleAnswer;
 use reconstructor_segments::SegmentName;
 use reconstructor_view::Audited;
 use reconstructor_view::BestAnswer;
+use reconstructor_view::InvalidationAnswer;
+use reconstructor_view::SegmentAnswer;
 use reconstructor_view::Viewed;
 ghost use mathlib.Core.Path.{_≡_};
 ghost use Prim.Native.Nat.{_≤_};
 ghost use lib.ListN.{length};
-ghost use Rattle.host_reads.specs.Answers.{answered, lastAnswered, present, priceOf, bestAnswered, findingNumber, auditNumber, shownAnswered, levelAnswered, staleAnswered};
+ghost use Rattle.host_reads.specs.Answers.{answered, lastAnswered, present, priceOf, bestAnswered, findingNumber, auditNumber, shownAnswered, levelAnswered, staleAnswered, invalidationAnswered, segmentAnswered};
 ghost use Rattle.book_levels.specs.Levels.{written};
 ghost use Rattle.host_reads.specs.Estimates.{anchorOf, estimateOf, anchorWords, estimateWords, estimateAnswered, assumptionWord, flagWord, aheadWords, aheadAnswered};
 
@@ -282,5 +285,59 @@ pub fn store_ahead(out: &mut [u64], answer: AheadAnswer) -> u64
             0
         }
         AheadAnswer::Refused(why) => why.number(),
+    }
+}
+
+pub fn store_invalidation(out: &mut [u64], answer: InvalidationAnswer) -> u64
+    requires { ⌜ 6 ≤ length (now out) ⌝ }
+    ensures { λ r. ⌜ answered r (now (out .exit)) ≡ invalidationAnswered answer (now (out .entry)) ⌝ }
+{
+    match answer {
+        InvalidationAnswer::InForce(why) => {
+            let kind = why.kind;
+            let words = kind_words(kind);
+            put(
+                out,
+                0,
+                &[
+                    why.last_good_seq,
+                    why.first_offending_seq,
+                    words.number,
+                    words.first,
+                    words.second,
+                    words.detail,
+                ],
+            );
+            0
+        }
+        InvalidationAnswer::NotInvalid => 256,
+    }
+}
+
+pub fn store_segment(out: &mut [u64], answer: SegmentAnswer) -> u64
+    requires { ⌜ 10 ≤ length (now out) ⌝ }
+    ensures { λ r. ⌜ answered r (now (out .exit)) ≡ segmentAnswered answer (now (out .entry)) ⌝ }
+{
+    match answer {
+        SegmentAnswer::Record(record) => {
+            put(
+                out,
+                0,
+                &[
+                    record.start_seq,
+                    record.last_good_seq,
+                    record.end,
+                    record.end_good,
+                    record.end_seq,
+                    record.end_detail,
+                    record.first_us,
+                    record.last_us,
+                    record.elapsed(),
+                    record.accepted_messages(),
+                ],
+            );
+            0
+        }
+        SegmentAnswer::NoRecord => 256,
     }
 }

@@ -2,3 +2,4 @@ pub mod Signs
 pub mod Puts
 pub mod Blocks
 pub mod RoundTrip
+pub mod Lent

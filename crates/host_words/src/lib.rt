@@ -378,11 +378,11 @@ pub fn load_book(words: &[u64]) -> BookReconstructor
 // ---- a block from its state
 
 // An invalidation's reason: its number, the two sequences of 20 and 21, and which 38 it is.
-struct KindWords {
-    number: u64,
-    first: u64,
-    second: u64,
-    detail: u64,
+pub struct KindWords {
+    pub number: u64,
+    pub first: u64,
+    pub second: u64,
+    pub detail: u64,
 }
 
 struct StatusWords {
@@ -392,7 +392,7 @@ struct StatusWords {
     kind: KindWords,
 }
 
-fn kind_words(kind: InvalidationKind) -> KindWords
+pub fn kind_words(kind: InvalidationKind) -> KindWords
     ensures { λ r. ⌜ r ≡ kindWords kind ⌝ }
 {
     match kind {

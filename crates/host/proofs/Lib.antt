@@ -1,4 +1,0 @@
-pub mod Lent
-pub mod Blocks
-pub mod Steps
-pub mod Views

@@ -1,0 +1,181 @@
+-- What an exported step leaves: a refusal leaves every lent word but the count that 10 and 17 raise and, at 17, the end of the handshake; a drop raises one
+-- count; and the words afterwards are the state and the handshake that the rules leave.
+-- Assumes nothing.
+use Prim.Native.Nat.{ℕ, _≤_}
+use mathlib.Core.Path.{_≡_, refl, sym, ap, _∙_}
+use mathlib.Core.Bool.{Bool, true, false, not, cond, _||_}
+use mathlib.Core.List.{List}
+use mathlib.Core.Option.{Option, none, some}
+use lib.Dec.{eqb, ltb}
+use lib.ListN.{length}
+use Rattle.message.specs.declared.L3Message.{L3Message}
+use Rattle.message.specs.Values.{eventInRange}
+use Rattle.book.specs.Rows.{ceiling}
+use Rattle.reconstructor_answers.specs.declared.Applied.the-variants.{BookChanged, NoBookEffect}
+use Rattle.reconstructor_answers.specs.declared.StateError.{StateError}
+use Rattle.reconstructor_answers.specs.declared.StateError.the-variants.{LimitAboveCeiling, LentTooShort, MalformedBook}
+use Rattle.reconstructor_answers.specs.declared.ApplyAnswer.{ApplyAnswer}
+use Rattle.reconstructor_answers.specs.declared.ApplyAnswer.the-variants as answers
+use Rattle.reconstructor_counts.specs.Counts.{countedAt}
+use Rattle.reconstructor_state.specs.Checks.{check, first}
+use Rattle.reconstructor_state.specs.State.{viewOf, lengthsOf, segmentOf}
+use Rattle.reconstructor_checks.specs.Own.{stateRefusal, broken}
+use Rattle.reconstructor.specs.Applied.{applied}
+use Rattle.reconstructor_handshake.specs.declared.StepAnswer.{StepAnswer}
+use Rattle.reconstructor_handshake.specs.declared.StepAnswer.the-variants.{Stepped, Dropped, OtherSegment}
+use Rattle.reconstructor_handshake.specs.Step.{otherSegment, drops, with, after, unchanged, decided, dropped, stepRefusal, settledStep, stepped, StepParts}
+use Rattle.host_words.specs.Block.{bookOf, messageOf, restored, applyNumber}
+use Rattle.host_handshake.specs.Steps.{handshakeOf, handshakeLeft, stepSets}
+use Rattle.host_calls.specs.Calls.{Call, afterApply, StepCall, stepCalled, afterStep, stepCall}
+use Rattle.laws.proofs.Bools.{absurd-bool, or-no}
+use Rattle.host_words.proofs.Blocks.{block-same, raised, raised-dropped}
+use Rattle.host_words.proofs.RoundTrip.{block-back}
+use Rattle.host_handshake.proofs.Words.{handshake-back, handshake-same}
+use Rattle.host_words.proofs.Lent.{lent-three}
+use Rattle.host_calls.proofs.Blocks.{acts, counted, applied-words, applied-state}
+
+-- a number is a refusal's unless it is that of a message applied, dropped or invalidating
+abbrev pub stepActs : ℕ → Bool
+stepActs k = acts k || eqb k 512
+
+-- 01: "16 or 17 ends the handshake"
+abbrev ended : ℕ → List ℕ → List ℕ
+ended k hs = cond (eqb k 17) (handshakeLeft hs (with (handshakeOf hs) true (handshakeOf hs .applied))) hs
+
+abbrev pub stepLeaves : ℕ → List ℕ → List ℕ → List ℕ → List ℕ → StepCall
+stepLeaves k st ws sg hs = stepCalled k (counted k st) ws sg (ended k hs)
+
+after-words : (hs : List ℕ) (a : ApplyAnswer) → 4 ≤ length hs → acts (applyNumber a) ≡ false → handshakeLeft hs (after (handshakeOf hs) a) ≡ ended (applyNumber a) hs
+after-words hs (answers.Applied BookChanged) long h = absurd-bool h
+after-words hs (answers.Applied NoBookEffect) long h = absurd-bool h
+after-words hs (answers.Unusable LimitAboveCeiling) long h = handshake-same hs long
+after-words hs (answers.Unusable LentTooShort) long h = handshake-same hs long
+after-words hs (answers.Unusable MalformedBook) long h = handshake-same hs long
+after-words hs answers.AmountOutOfRange long h = handshake-same hs long
+after-words hs answers.WrongProduct long h = handshake-same hs long
+after-words hs answers.NotBootstrapped long h = handshake-same hs long
+after-words hs (answers.Invalidated i) long h = absurd-bool h
+after-words hs (answers.AwaitingSnapshot i) long h = refl
+
+-- no answer of `apply` has a drop's number
+not-dropped : (a : ApplyAnswer) → eqb (applyNumber a) 512 ≡ false
+not-dropped (answers.Applied BookChanged) = refl
+not-dropped (answers.Applied NoBookEffect) = refl
+not-dropped (answers.Unusable LimitAboveCeiling) = refl
+not-dropped (answers.Unusable LentTooShort) = refl
+not-dropped (answers.Unusable MalformedBook) = refl
+not-dropped answers.AmountOutOfRange = refl
+not-dropped answers.WrongProduct = refl
+not-dropped answers.NotBootstrapped = refl
+not-dropped (answers.Invalidated i) = refl
+not-dropped (answers.AwaitingSnapshot i) = refl
+
+-- a step on words that are long enough, by what refuses it and whether it drops
+module _ (st ws sg hs : List ℕ) (m : L3Message) (long : 27 ≤ length st) (full : 4 ≤ length hs) where
+  abbrev gate : Option StateError → Bool → Bool → Option StepAnswer
+  gate o x y = first o (λ (e : StateError). Stepped (answers.Unusable e)) (check x OtherSegment (check y (Stepped answers.AmountOutOfRange) none))
+
+  abbrev left : Option StepAnswer → Bool → StepParts
+  left o d =
+      settledStep o (cond d (dropped (handshakeOf hs) (bookOf st) ws sg) (decided (handshakeOf hs) (applied ceiling (bookOf st) ws sg m)))
+      (handshakeOf hs)
+      (bookOf st)
+      ws
+      sg
+
+  -- a refusal that no `apply` has decided
+  kept : (k : ℕ) → stepCalled k (restored st false (bookOf st)) ws sg (handshakeLeft hs (handshakeOf hs)) ≡ stepCalled k st ws sg hs
+  kept k = rw (block-same st long, handshake-same hs full)
+
+  left-refused : (o : Option StateError) (x y d : Bool) → stepActs (afterStep st hs (left (gate o x y) d) .number) ≡ false
+      → afterStep st hs (left (gate o x y) d) ≡ stepLeaves (afterStep st hs (left (gate o x y) d) .number) st ws sg hs
+  unfolding settledStep first check
+  left-refused (some LimitAboveCeiling) x y d h = kept 1
+  left-refused (some LentTooShort) x y d h = kept 2
+  left-refused (some MalformedBook) x y d h = kept 3
+  left-refused none true y d h = kept 9
+  left-refused none false true d h = kept 5
+  left-refused none false false true h = absurd-bool h
+  left-refused none false false false h =
+      let p = applied ceiling (bookOf st) ws sg m in
+      let refused = or-no (acts (applyNumber (p .answer))) (eqb (applyNumber (p .answer)) 512) h .0 in
+      ap (λ (c : Call). stepCalled (c .number) (c .state) (c .rows) (c .segments) (handshakeLeft hs (after (handshakeOf hs) (p .answer)))) (applied-words st ws sg m long refused) ∙
+      ap (stepCalled (applyNumber (p .answer)) (counted (applyNumber (p .answer)) st) ws sg) (after-words hs (p .answer) full refused)
+
+  left-dropped : (o : Option StateError) (x y d : Bool) → eqb (afterStep st hs (left (gate o x y) d) .number) 512 ≡ true
+      → afterStep st hs (left (gate o x y) d) ≡ stepCalled 512 (raised st 23) ws sg hs
+  unfolding settledStep first check
+  left-dropped (some LimitAboveCeiling) x y d h = absurd-bool (sym h)
+  left-dropped (some LentTooShort) x y d h = absurd-bool (sym h)
+  left-dropped (some MalformedBook) x y d h = absurd-bool (sym h)
+  left-dropped none true y d h = absurd-bool (sym h)
+  left-dropped none false true d h = absurd-bool (sym h)
+  left-dropped none false false true h = rw (raised-dropped st long, handshake-same hs full)
+  left-dropped none false false false h = absurd-bool (sym h ∙ not-dropped (applied ceiling (bookOf st) ws sg m .answer))
+
+  left-state : (o : Option StepAnswer) (d : Bool) → bookOf (afterStep st hs (left o d) .state) ≡ left o d .book
+  unfolding settledStep
+  left-state (some a) d =
+      let b = bookOf st in
+      block-back st (stepSets a) (b .status) (b .rows) (b .segments) (b .counts) long (λ e. refl)
+  left-state none true =
+      let b = bookOf st in
+      block-back st false (b .status) (b .rows) (b .segments) (countedAt 8 (b .counts)) long (λ e. refl)
+  left-state none false = applied-state st ws sg m long
+
+-- 01's checks on a state
+abbrev stateOf : List ℕ → List ℕ → List ℕ → Option StateError
+stateOf st ws sg =
+    let b = bookOf st in
+    stateRefusal ceiling (b .rules) (lengthsOf ws sg) (broken b ws) (viewOf b ws sg)
+
+module _ (st ws sg hs m : List ℕ) where
+  abbrev other : Bool
+  other = otherSegment (handshakeOf hs) (segmentOf (bookOf st)) (bookOf st .segments)
+
+  abbrev far : Bool
+  far = not (eventInRange (messageOf m .event))
+
+  abbrev old : Bool
+  old = drops (bookOf st .«product_id») (viewOf (bookOf st) ws sg .startSeq) (messageOf m)
+
+  abbrev short : Bool
+  short = ltb (length st) 27 || (ltb (length hs) 4 || ltb (length m) 21)
+
+  abbrev leftBy : Bool → StepCall
+  leftBy x =
+      cond x (stepCalled 7 st ws sg hs) (afterStep st hs (stepped ceiling (handshakeOf hs) (bookOf st) ws sg (messageOf m)))
+
+  by-refused : (x : Bool) → short ≡ x → stepActs (leftBy x .number) ≡ false → leftBy x ≡ stepLeaves (leftBy x .number) st ws sg hs
+  unfolding stepped stepRefusal
+  by-refused true e h = refl
+  by-refused false e h =
+      let lent = lent-three st 27 hs 4 m 21 e in
+      left-refused st ws sg hs (messageOf m) (lent .0) (lent .1 .0) (stateOf st ws sg) other far old h
+
+  pub step-refused : stepActs (stepCall st ws sg hs m .number) ≡ false → stepCall st ws sg hs m ≡ stepLeaves (stepCall st ws sg hs m .number) st ws sg hs
+  unfolding stepCall
+  step-refused h = by-refused short refl h
+
+  by-dropped : (x : Bool) → short ≡ x → eqb (leftBy x .number) 512 ≡ true → leftBy x ≡ stepCalled 512 (raised st 23) ws sg hs
+  unfolding stepped stepRefusal
+  by-dropped true e h = absurd-bool (sym h)
+  by-dropped false e h =
+      let lent = lent-three st 27 hs 4 m 21 e in
+      left-dropped st ws sg hs (messageOf m) (lent .0) (lent .1 .0) (stateOf st ws sg) other far old h
+
+  pub step-dropped : eqb (stepCall st ws sg hs m .number) 512 ≡ true → stepCall st ws sg hs m ≡ stepCalled 512 (raised st 23) ws sg hs
+  unfolding stepCall
+  step-dropped h = by-dropped short refl h
+
+  module _ (lent : short ≡ false) where
+    pub step-state : bookOf (stepCall st ws sg hs m .state) ≡ stepped ceiling (handshakeOf hs) (bookOf st) ws sg (messageOf m) .book
+    unfolding stepCall stepped
+    step-state =
+        let sizes = lent-three st 27 hs 4 m 21 lent in
+        rw lent
+        (left-state st ws sg hs (messageOf m) (sizes .0) (sizes .1 .0) (stepRefusal ceiling (bookOf st .rules) (lengthsOf ws sg) (broken (bookOf st) ws) (viewOf (bookOf st) ws sg) (segmentOf (bookOf st)) (handshakeOf hs) (messageOf m)) old)
+
+    pub step-handshake : handshakeOf (stepCall st ws sg hs m .handshake) ≡ stepped ceiling (handshakeOf hs) (bookOf st) ws sg (messageOf m) .handshake
+    unfolding stepCall
+    step-handshake = rw lent (handshake-back hs _)

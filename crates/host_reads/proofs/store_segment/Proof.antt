@@ -1,0 +1,29 @@
+use mathlib.Core.Path.{ap}
+use Rattle.host_reads.specs.Answers.{answered}
+use borrow.Author.Needs.{needs}
+use Rattle.host_reads.proofs.store_segment.Statement.{statement}
+use Rattle.host_reads.proofs.store_segment.Tie as tie
+
+returns : tie.Need-returns
+returns c =
+    let k-accepted-messages = c .before .before .before .before in
+    let k-elapsed = k-accepted-messages .before in
+    let k-answer = k-elapsed .before .before .before in
+    rw (k-answer .answer .given .1, ← k-elapsed .elapsed .ensures, ← k-accepted-messages .accepted-messages .ensures) (ap (answered 0) (c .before .before .put .ensures))
+
+returns-2 : tie.Need-returns-2
+returns-2 c = rw (c .enum-told .given .1)
+
+pub store-segment-spec : {M : Type 1} → statement M
+store-segment-spec =
+    tie.close
+    (tie.spec
+    (λ c. search needs)
+    (λ c κs. search needs)
+    (λ c κs. search needs)
+    (λ c. search needs)
+    (λ c κs. search needs)
+    (λ c. search needs)
+    (λ c. search needs)
+    returns
+    returns-2)
