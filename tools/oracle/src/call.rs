@@ -246,6 +246,13 @@ pub enum Act {
     Handshake { slot: u8 },
     /// As `Apply`.
     Step { slot: u8, piece: Vec<u8> },
+    /// The Rust's `bootstrap_with_buffer`: a snapshot and the messages buffered meanwhile. Lent rows and segments. Where the snapshot is
+    /// accepted, the slot holds its handshake, stepped by the messages in turn until one ends it.
+    BootstrapWithBuffer {
+        slot: u8,
+        piece: Vec<u8>,
+        buffer: Vec<Vec<u8>>,
+    },
     /// Lent rows, scratch and output.
     LevelQueue { side: Side, price: i64 },
     /// Lent rows, scratch and output.
@@ -342,6 +349,11 @@ pub enum Values {
     /// Every step: what it did (success only), the invalidation (16 and 17 only) and the handshake afterwards, refused steps included.
     Step {
         stepped: Option<Stepped>,
+        invalidation: Option<Invalidation>,
+        handshake: Handshake,
+    },
+    /// `Act::BootstrapWithBuffer`, once the snapshot is accepted: the invalidation (16 only) and the handshake afterwards.
+    Buffered {
         invalidation: Option<Invalidation>,
         handshake: Handshake,
     },

@@ -2,7 +2,7 @@
 
 use std::collections::BTreeMap;
 
-use crate::call::{Act, Answer, Call, Subject, Voice};
+use crate::call::{Act, Answer, Call, Subject, Values, Voice};
 use crate::generate::Generator;
 
 /// What a run without a difference has to say.
@@ -62,9 +62,10 @@ enum Slot {
 /// The slot that a call names.
 fn named(act: &Act) -> Option<Slot> {
     match act {
-        Act::Handshake { slot } | Act::Step { slot, .. } | Act::ForgeHandshake { slot, .. } => {
-            Some(Slot::Handshake(*slot))
-        }
+        Act::Handshake { slot }
+        | Act::Step { slot, .. }
+        | Act::BootstrapWithBuffer { slot, .. }
+        | Act::ForgeHandshake { slot, .. } => Some(Slot::Handshake(*slot)),
         Act::QueueEstimate { slot, .. }
         | Act::QueueEstimateOwn { slot, .. }
         | Act::VolumeAhead { slot }
@@ -76,7 +77,9 @@ fn named(act: &Act) -> Option<Slot> {
 
 /// Whether the call surely put a new value into the slot it names.
 fn overwrites(act: &Act, answer: &Answer) -> bool {
-    let success = matches!(answer, Answer::Said(said) if said.number == 0);
+    let Answer::Said(said) = answer else {
+        return false;
+    };
     let makes = matches!(
         act,
         Act::Handshake { .. }
@@ -85,7 +88,7 @@ fn overwrites(act: &Act, answer: &Answer) -> bool {
             | Act::QueueEstimateOwn { .. }
             | Act::ForgeEstimate { .. }
     );
-    success && makes
+    said.number == 0 && makes || matches!(said.values, Values::Buffered { .. })
 }
 
 /// Calls by their place in the stream.

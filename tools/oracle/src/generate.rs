@@ -14,7 +14,7 @@ mod snapshots;
 use std::collections::VecDeque;
 
 use crate::call::{Act, Answer, CEILING, Call, Lent, SegmentName, Subject};
-use crate::piece::{AMOUNT_LIMIT, Event, Message, encode_message, encode_snapshot};
+use crate::piece::{AMOUNT_LIMIT, Event, Message, Snapshot, encode_message, encode_snapshot};
 use crate::rust::Rust;
 use events::{BOUNDS, REASONS};
 use mirror::{Damage, Mirror, Standing};
@@ -34,6 +34,8 @@ const BUILD_PERIOD: u64 = 250_000;
 const BUILD_START: u64 = 5_000;
 const BUILD_LIFE: u64 = 5_700;
 const BUILD_SHARE: u64 = 25;
+/// How many snapshots in a hundred come with a buffer.
+const BUFFERED: u64 = 30;
 
 /// Enough for every call, and for a forged list of one order too many.
 const PLENTY: Lent = Lent {
@@ -314,7 +316,42 @@ impl Generator {
             let message = self.message(book);
             piece = encode_message(&message);
         }
-        Act::Bootstrap { piece }
+        if book.filling() || !self.random.chance(BUFFERED) {
+            return Act::Bootstrap { piece };
+        }
+        Act::BootstrapWithBuffer {
+            slot: self.random.below(HANDSHAKES) as u8,
+            piece,
+            buffer: self.buffer(book, &snapshot),
+        }
+    }
+
+    /// Messages buffered for a snapshot: those that it has already, and those after it, mostly in order.
+    fn buffer(&mut self, book: &Mirror, snapshot: &Snapshot) -> Vec<Vec<u8>> {
+        let mut after = book.clone();
+        after.replace(snapshot);
+        let length = match self.random.below(10) {
+            0 => 0,
+            1..=6 => self.random.below(10),
+            _ => self.random.below(40),
+        };
+        let mut buffer = Vec::new();
+        for _ in 0..length {
+            let mut message = self.message(&after);
+            if self.random.chance(25) {
+                let back = self.random.below(3);
+                message.sequence = after.start.saturating_sub(back);
+            }
+            if self.random.chance(5) {
+                message.product = self.random.other_product(&book.product);
+            }
+            let next = message.sequence == after.last.wrapping_add(1);
+            if next && message.product == book.product && message.event.amounts_in_range() {
+                after.accept(&message);
+            }
+            buffer.push(self.message_piece(&message));
+        }
+        buffer
     }
 
     /// A handshake made, or a step of one: mostly of this segment's, at times of any.

@@ -239,6 +239,13 @@ impl Line {
                 })
                 .optional_invalidation(invalidation.as_ref())
                 .handshake(handshake),
+            Values::Buffered {
+                invalidation,
+                handshake,
+            } => self
+                .put("buffered")
+                .optional_invalidation(invalidation.as_ref())
+                .handshake(handshake),
             Values::Handshake(handshake) => self.put("handshake").handshake(handshake),
             Values::Entries { entries, words } => self.put("entries").put(entries).all(words),
             Values::NoStale => self.put("none"),
@@ -354,6 +361,14 @@ impl Line {
             | Act::ReadSnapshot { piece } => self.hex(piece),
             Act::Handshake { slot } | Act::VolumeAhead { slot } => self.put(slot),
             Act::Step { slot, piece } => self.put(slot).hex(piece),
+            Act::BootstrapWithBuffer {
+                slot,
+                piece,
+                buffer,
+            } => {
+                self.put(slot).hex(piece);
+                buffer.iter().fold(self, |line, message| line.hex(message))
+            }
             Act::LevelQueue { side, price } => self.side(*side).put(price),
             Act::PriorityProfile { side } | Act::StaleL2 { side } | Act::L2 { side } => {
                 self.side(*side)
@@ -400,6 +415,7 @@ impl Act {
             Act::Apply { .. } => "apply",
             Act::Handshake { .. } => "handshake",
             Act::Step { .. } => "step",
+            Act::BootstrapWithBuffer { .. } => "bootstrap_with_buffer",
             Act::LevelQueue { .. } => "level_queue",
             Act::PriorityProfile { .. } => "priority_profile",
             Act::StaleL2 { .. } => "stale_l2",
@@ -455,6 +471,18 @@ struct Words<'a>(SplitAsciiWhitespace<'a>);
 
 type Parsed<T> = Result<T, String>;
 
+fn bytes(text: &str) -> Parsed<Vec<u8>> {
+    if text == "-" {
+        return Ok(Vec::new());
+    }
+    if text.len() % 2 != 0 || !text.is_ascii() {
+        return Err(format!("{text} is not hex"));
+    }
+    let byte = |at: usize| u8::from_str_radix(&text[at..at + 2], 16);
+    let bytes: Result<Vec<u8>, _> = (0..text.len()).step_by(2).map(byte).collect();
+    bytes.map_err(|_| format!("{text} is not hex"))
+}
+
 impl Words<'_> {
     fn text(&mut self) -> Parsed<&str> {
         self.0
@@ -469,16 +497,12 @@ impl Words<'_> {
     }
 
     fn hex(&mut self) -> Parsed<Vec<u8>> {
-        let text = self.text()?;
-        if text == "-" {
-            return Ok(Vec::new());
-        }
-        if text.len() % 2 != 0 || !text.is_ascii() {
-            return Err(format!("{text} is not hex"));
-        }
-        let byte = |at: usize| u8::from_str_radix(&text[at..at + 2], 16);
-        let bytes: Result<Vec<u8>, _> = (0..text.len()).step_by(2).map(byte).collect();
-        bytes.map_err(|_| format!("{text} is not hex"))
+        bytes(self.text()?)
+    }
+
+    /// The pieces up to the end of the line.
+    fn pieces(&mut self) -> Parsed<Vec<Vec<u8>>> {
+        self.0.by_ref().map(bytes).collect()
     }
 
     fn id(&mut self) -> Parsed<Id> {
@@ -667,6 +691,11 @@ impl Words<'_> {
             "step" => Act::Step {
                 slot: self.number()?,
                 piece: self.hex()?,
+            },
+            "bootstrap_with_buffer" => Act::BootstrapWithBuffer {
+                slot: self.number()?,
+                piece: self.hex()?,
+                buffer: self.pieces()?,
             },
             "level_queue" => Act::LevelQueue {
                 side: self.side()?,

@@ -189,6 +189,11 @@ impl Model {
                 Some(Reply::new(0, Values::Handshake(handshake)))
             }
             Act::Step { slot, piece } => self.step(book, lent, *slot, piece),
+            Act::BootstrapWithBuffer {
+                slot,
+                piece,
+                buffer,
+            } => self.bootstrap_with_buffer(book, lent, *slot, piece, buffer),
             Act::SetRow { .. } | Act::SetSegment { .. } | Act::SetState { .. } => {
                 book.damage(act);
                 Some(Reply::new(0, Values::Nothing))
@@ -214,6 +219,40 @@ impl Model {
             result.err().map_or(0, |refusal| refusal.number),
             values,
         ))
+    }
+
+    /// "becomes `bootstrap`, then a handshake value for that segment stepped by one message a call", until one ends it.
+    fn bootstrap_with_buffer(
+        &mut self,
+        book: &mut Book,
+        lent: &Lent,
+        slot: u8,
+        piece: &[u8],
+        buffer: &[Vec<u8>],
+    ) -> Option<Reply> {
+        if let Err(refusal) = snapshot::bootstrap(self.slip, &mut book.lend(lent), piece) {
+            return Some(Reply::refused(refusal));
+        }
+        self.handshakes.insert(slot, book.handshake()?);
+        let (mut number, mut why) = (0, None);
+        for message in buffer {
+            let reply = self.step(book, lent, slot, message)?;
+            if let Values::Step {
+                invalidation,
+                handshake,
+                ..
+            } = reply.values
+                && handshake.ended
+            {
+                (number, why) = (reply.number, invalidation);
+                break;
+            }
+        }
+        let values = Values::Buffered {
+            invalidation: why,
+            handshake: *self.handshakes.get(&slot)?,
+        };
+        Some(Reply::new(number, values))
     }
 
     fn read(&mut self, book: &Book, lent: &Lent, act: &Act) -> Option<Reply> {

@@ -176,6 +176,17 @@ impl Rust {
                 Some(Slot::Known(handshake)) => Some(step(&mut host, handshake, &call.lent, piece)),
                 _ => return Answer::NoWord,
             },
+            Act::BootstrapWithBuffer {
+                slot,
+                piece,
+                buffer,
+            } => {
+                let reply = host.bootstrap_with_buffer(&call.lent, piece, buffer);
+                if let Values::Buffered { handshake, .. } = reply.values {
+                    self.handshakes.insert(*slot, Slot::Known(handshake));
+                }
+                Some(reply)
+            }
             Act::QueueEstimate { slot, side, price } => {
                 Some(self.queue_estimate(&host, &call.lent, *slot, *side, *price))
             }
@@ -204,7 +215,9 @@ impl Rust {
     /// A call on a book without a word leaves the slot it may write without a word.
     fn spoil(&mut self, act: &Act) {
         match act {
-            Act::Handshake { slot } | Act::Step { slot, .. } => {
+            Act::Handshake { slot }
+            | Act::Step { slot, .. }
+            | Act::BootstrapWithBuffer { slot, .. } => {
                 self.handshakes.insert(*slot, Slot::NoWord);
             }
             Act::QueueEstimate { slot, .. } | Act::QueueEstimateOwn { slot, .. } => {

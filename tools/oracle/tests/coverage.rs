@@ -1,6 +1,6 @@
 //! What 100,000 calls of a fixed seed reach: printed in full, and a zero fails.
 
-use std::collections::BTreeMap;
+use std::collections::{BTreeMap, BTreeSet};
 
 use oracle::call::{
     Act, Anchor, Answer, Applied, Assumption, CEILING, Call, Estimate, Lent, Rules, Said, State,
@@ -40,12 +40,13 @@ const COUNTERS: [&str; 12] = [
     "rejected_snapshots",
 ];
 
-const ACTS: [&str; 25] = [
+const ACTS: [&str; 26] = [
     "create",
     "bootstrap",
     "apply",
     "handshake",
     "step",
+    "bootstrap_with_buffer",
     "level_queue",
     "priority_profile",
     "stale_l2",
@@ -81,7 +82,7 @@ const SIZES: [(&str, u64, u64); 10] = [
     ("4096", 4_096, 4_096),
 ];
 
-const SPECIALS: [&str; 44] = [
+const SPECIALS: [&str; 49] = [
     "4096 orders by a snapshot",
     "4096 orders by opens",
     "open refused at 4096 orders",
@@ -106,6 +107,11 @@ const SPECIALS: [&str; 44] = [
     "9 of an ended handshake",
     "9 of another segment",
     "9 before any snapshot",
+    "buffer of no message",
+    "buffer with messages applied and dropped",
+    "buffer ended by 16 after a message",
+    "snapshot of a buffer refused",
+    "step after a buffer",
     "forged handshake applied",
     "forged handshake dropped",
     "accepted message with time 0",
@@ -135,6 +141,8 @@ struct Coverage {
     states: BTreeMap<u8, State>,
     living: BTreeMap<u8, bool>,
     forged: BTreeMap<u8, bool>,
+    /// Handshakes that came with a buffer.
+    buffered: BTreeSet<u8>,
     estimates: BTreeMap<u8, (u8, Estimate, Vec<u64>)>,
 }
 
@@ -402,7 +410,11 @@ impl Coverage {
         }
         let why = match said.values {
             Values::Invalidation(why) if said.number == 16 => Some(why),
-            Values::Step { invalidation, .. } if said.number == 16 => invalidation,
+            Values::Step { invalidation, .. } | Values::Buffered { invalidation, .. }
+                if said.number == 16 =>
+            {
+                invalidation
+            }
             _ => None,
         };
         if let Some(why) = why {
@@ -507,17 +519,42 @@ impl Coverage {
             (Act::ReadMessage { piece }, 4) if piece.first() == Some(&0) => {
                 self.special("reader on a snapshot handed as message");
             }
+            (Act::BootstrapWithBuffer { slot, buffer, .. }, _) => {
+                self.buffer(*slot, buffer, before, said);
+            }
             (Act::Handshake { slot }, 0) => {
+                self.buffered.remove(slot);
                 self.living.insert(*slot, true);
                 self.forged.insert(*slot, false);
             }
             (Act::ForgeHandshake { slot, handshake }, _) => {
+                self.buffered.remove(slot);
                 self.living.insert(*slot, !handshake.ended);
                 self.forged.insert(*slot, true);
             }
             (Act::Step { slot, .. }, _) => self.step(*slot, before, said),
             _ => {}
         }
+    }
+
+    fn buffer(&mut self, slot: u8, buffer: &[Vec<u8>], before: Option<State>, said: &Said) {
+        let Values::Buffered { handshake, .. } = said.values else {
+            if said.number > 9 {
+                self.special("snapshot of a buffer refused");
+            }
+            return;
+        };
+        let dropped = |state: State| state.counts.handshake_dropped;
+        let drops = before.map(dropped) != said.state.map(dropped);
+        match (said.number, handshake.applied) {
+            (0, 0) if buffer.is_empty() => self.special("buffer of no message"),
+            (0, 1..) if drops => self.special("buffer with messages applied and dropped"),
+            (16, 1..) => self.special("buffer ended by 16 after a message"),
+            _ => {}
+        }
+        self.living.insert(slot, !handshake.ended);
+        self.forged.insert(slot, false);
+        self.buffered.insert(slot);
     }
 
     fn step(&mut self, slot: u8, before: Option<State>, said: &Said) {
@@ -527,6 +564,9 @@ impl Coverage {
         else {
             return;
         };
+        if self.buffered.contains(&slot) && stepped.is_some() {
+            self.special("step after a buffer");
+        }
         let forged = self.forged.get(&slot) == Some(&true);
         let ended = self.living.get(&slot) == Some(&false);
         match (said.number, stepped) {

@@ -3,7 +3,7 @@
 use super::mirror::{Damage, Standing};
 use super::{Estimated, Generator, HANDSHAKES, PLENTY, Shaken};
 use crate::call::{Act, Anchor, Answer, CEILING, Call, Estimate, Stepped, Values};
-use crate::piece::{decode_snapshot, shape_message};
+use crate::piece::{decode_message, decode_snapshot, shape_message};
 
 impl Generator {
     pub(super) fn follow(&mut self, call: &Call, answer: &Answer) {
@@ -44,7 +44,24 @@ impl Generator {
                 self.follow_step(*at, answer);
                 self.follow_message(slot, piece, answer);
             }
-            (Act::Bootstrap { piece }, _) => self.follow_snapshot(slot, piece, answer),
+            (Act::Bootstrap { piece }, _) => {
+                if self.follow_snapshot(slot, piece, answer) {
+                    self.after_snapshot(slot);
+                }
+            }
+            (
+                Act::BootstrapWithBuffer {
+                    slot: at,
+                    piece,
+                    buffer,
+                },
+                _,
+            ) => {
+                if self.follow_snapshot(slot, piece, answer) {
+                    self.follow_buffer(slot, buffer, answer);
+                }
+                self.follow_buffered(*at, slot, answer);
+            }
             _ => {}
         }
     }
@@ -103,14 +120,15 @@ impl Generator {
         }
     }
 
-    fn follow_snapshot(&mut self, slot: u8, piece: &[u8], answer: &Answer) {
+    /// Whether the snapshot was accepted.
+    fn follow_snapshot(&mut self, slot: u8, piece: &[u8], answer: &Answer) -> bool {
         let (Some(book), Ok(snapshot)) =
             (&mut self.books[usize::from(slot)], decode_snapshot(piece))
         else {
-            return;
+            return false;
         };
         let accepted = match answer {
-            Answer::Said(said) => said.number == 0,
+            Answer::Said(said) => matches!(said.number, 0 | 16),
             Answer::NoWord => book.damage == Damage::Harmless,
             Answer::Absent => false,
         };
@@ -120,9 +138,52 @@ impl Generator {
                 // No further snapshot fits.
                 book.life = book.life.min(150);
             }
-            self.after_snapshot(slot);
         } else if matches!(answer, Answer::Said(said) if said.number == 6) {
             book.life = book.life.min(self.random.below(6));
+        }
+        accepted
+    }
+
+    /// The messages that a buffer brought: each is the next one, up to the one that ended it.
+    fn follow_buffer(&mut self, slot: u8, buffer: &[Vec<u8>], answer: &Answer) {
+        let Some(book) = &mut self.books[usize::from(slot)] else {
+            return;
+        };
+        let applied = match answer {
+            Answer::Said(said) => match said.values {
+                Values::Buffered { handshake, .. } => handshake.applied,
+                _ => 0,
+            },
+            // A guess, as for a single message.
+            _ => buffer.len() as u64,
+        };
+        let (product, start) = (book.product, book.start);
+        let messages = buffer.iter().filter_map(|piece| decode_message(piece).ok());
+        let new = messages.filter(|m| m.product == product && m.sequence > start);
+        for message in new.take(applied as usize) {
+            if message.sequence == book.last.wrapping_add(1) {
+                book.accept(&message);
+            }
+        }
+        if matches!(answer, Answer::Said(said) if said.number == 16) {
+            book.standing = Standing::Invalid;
+        }
+    }
+
+    fn follow_buffered(&mut self, at: u8, slot: u8, answer: &Answer) {
+        match answer {
+            Answer::NoWord => self.shaken(at, slot, true),
+            Answer::Said(said) => {
+                if let Values::Buffered { handshake, .. } = said.values {
+                    self.handshakes[usize::from(at)] = Some(Shaken {
+                        book: slot,
+                        segment: handshake.segment,
+                        alive: !handshake.ended,
+                        wordless: false,
+                    });
+                }
+            }
+            Answer::Absent => {}
         }
     }
 

@@ -11,8 +11,10 @@ use crate::call::{
 use crate::l3::book::{Book, PriorityEvidence};
 use crate::l3::message::L3Side;
 use crate::l3::queue::QueueEstimate;
-use crate::l3::reconstructor::{ApplyError, BookReconstructor, ViewError};
-use crate::piece::{Id, Message, Product, Side, decode_snapshot, shape_message};
+use crate::l3::reconstructor::{ApplyError, BookReconstructor, HandshakeError, ViewError};
+use crate::piece::{
+    Id, Message, Product, Side, Snapshot, decode_message, decode_snapshot, shape_message,
+};
 
 pub struct Host {
     reconstructor: BookReconstructor,
@@ -236,17 +238,23 @@ impl Host {
         }
     }
 
-    fn bootstrap(&mut self, lent: &Lent, piece: &[u8]) -> Reply {
+    /// The snapshot of a piece, unless the runner turns it away: 1, 2, 4, 5, 6.
+    fn snapshot(&self, lent: &Lent, piece: &[u8]) -> Result<Snapshot, u8> {
         if let Some(number) = self.limits(lent).or_else(|| self.short_list(lent)) {
-            return Reply::runner(number);
+            return Err(number);
         }
-        let snapshot = match decode_snapshot(piece) {
+        let snapshot = decode_snapshot(piece)?;
+        if lent.segments.min(self.segment_records) == self.segments() {
+            return Err(6);
+        }
+        Ok(snapshot)
+    }
+
+    fn bootstrap(&mut self, lent: &Lent, piece: &[u8]) -> Reply {
+        let snapshot = match self.snapshot(lent, piece) {
             Ok(snapshot) => snapshot,
             Err(number) => return Reply::runner(number),
         };
-        if lent.segments.min(self.segment_records) == self.segments() {
-            return Reply::runner(6);
-        }
         let number = match self.reconstructor.bootstrap(&convert::snapshot(&snapshot)) {
             Ok(()) => {
                 self.times.push((0, 0));
@@ -256,6 +264,79 @@ impl Host {
             Err(error) => convert::snapshot_error(&error),
         };
         Reply::rust(number, Values::Nothing)
+    }
+
+    /// The Rust's own `bootstrap_with_buffer`. Messages that a step would turn away by 4 or 5 are the runner's to leave out.
+    pub fn bootstrap_with_buffer(
+        &mut self,
+        lent: &Lent,
+        piece: &[u8],
+        buffer: &[Vec<u8>],
+    ) -> Reply {
+        let snapshot = match self.snapshot(lent, piece) {
+            Ok(snapshot) => snapshot,
+            Err(number) => return Reply::runner(number),
+        };
+        let messages: Vec<Message> = buffer
+            .iter()
+            .filter_map(|piece| decode_message(piece).ok())
+            .collect();
+        let theirs: Vec<_> = messages.iter().map(convert::message).collect();
+        let whole = self
+            .reconstructor
+            .bootstrap_with_buffer(&convert::snapshot(&snapshot), &theirs);
+        let (told, invalidation) = match whole {
+            Ok(applied) => (Some(applied as u64), None),
+            Err(HandshakeError::Snapshot(error)) => {
+                return Reply::rust(convert::snapshot_error(&error), Values::Nothing);
+            }
+            Err(HandshakeError::Apply(ApplyError::Invalidated(why))) => {
+                (None, Some(convert::invalidation(&why)))
+            }
+            Err(other) => unreachable!("{other:?} after an accepted snapshot"),
+        };
+        let applied = self.take_buffer(&snapshot, &messages, told);
+        let handshake = Handshake {
+            segment: self.current_segment().expect("a snapshot was accepted"),
+            start_seq: snapshot.sequence,
+            applied,
+            ended: invalidation.is_some(),
+        };
+        let values = Values::Buffered {
+            invalidation,
+            handshake,
+        };
+        Reply::rust(if handshake.ended { 16 } else { 0 }, values)
+    }
+
+    /// Follows a buffer that the Rust took in one call, and gives the number applied. The Rust tells it of a whole buffer only; of another
+    /// it is the record's, and the rows of the book, which is invalid, are those of a book that is fed only what was accepted.
+    fn take_buffer(&mut self, snapshot: &Snapshot, messages: &[Message], told: Option<u64>) -> u64 {
+        let record = self.reconstructor.manifest().segments.last();
+        let record = record.expect("a snapshot was accepted");
+        let applied = told.unwrap_or(record.last_good_seq - record.start_seq);
+        let accepted: Vec<&Message> = messages
+            .iter()
+            .filter(|m| m.product == self.product && m.sequence > snapshot.sequence)
+            .take(applied as usize)
+            .collect();
+        let time = |message: Option<&&Message>| message.map_or(0, |message| message.time_us);
+        self.times
+            .push((time(accepted.first()), time(accepted.last())));
+        if told.is_none() {
+            let product = convert::product_text(&self.product);
+            let mut fed = BookReconstructor::new(product, convert::rules(&self.rules));
+            fed.bootstrap(&convert::snapshot(snapshot))
+                .expect("it was accepted");
+            for message in accepted {
+                fed.apply(&convert::message(message))
+                    .expect("it was accepted");
+            }
+            let (book, _) = fed.valid_book().expect("nothing was refused");
+            self.rows = book.orders.len() as u64;
+        }
+        self.refresh();
+        applied
     }
 
     fn apply_piece(&mut self, lent: &Lent, piece: &[u8]) -> Reply {
