@@ -2,6 +2,8 @@
 //!
 //! LINES.md says how they are written as lines and what a host's memory is.
 
+use std::hash::{Hash, Hasher};
+
 use crate::piece::{Id, Message, Product, Side, Snapshot};
 
 /// The ceiling of both limits.
@@ -62,13 +64,13 @@ pub fn fresh_segments(seed: u64, records: u64) -> Vec<Segment> {
     (0..records).map(record).collect()
 }
 
-#[derive(Debug, Clone, Copy, PartialEq, Eq)]
+#[derive(Debug, Clone, Copy, PartialEq, Eq, Hash)]
 pub enum SizeDecrease {
     KeepsPriority,
     PriorityUnknown,
 }
 
-#[derive(Debug, Clone, Copy, PartialEq, Eq)]
+#[derive(Debug, Clone, Copy, PartialEq, Eq, Hash)]
 pub struct Rules {
     pub size_decrease: SizeDecrease,
     pub max_orders: u64,
@@ -76,7 +78,7 @@ pub struct Rules {
 }
 
 /// Why and where a segment stopped being valid. `reason` is 20 to 44; `funds` tells the two reasons of 38 apart and is false elsewhere.
-#[derive(Debug, Clone, Copy, PartialEq, Eq)]
+#[derive(Debug, Clone, Copy, PartialEq, Eq, Hash)]
 pub struct Invalidation {
     pub last_good_seq: u64,
     pub first_offending_seq: u64,
@@ -84,7 +86,7 @@ pub struct Invalidation {
     pub funds: bool,
 }
 
-#[derive(Debug, Clone, Copy, PartialEq, Eq)]
+#[derive(Debug, Clone, Copy, PartialEq, Eq, Hash)]
 pub enum SegmentEnd {
     Open,
     Superseded,
@@ -92,7 +94,7 @@ pub enum SegmentEnd {
 }
 
 /// One record of the segment list.
-#[derive(Debug, Clone, Copy, PartialEq, Eq)]
+#[derive(Debug, Clone, Copy, PartialEq, Eq, Hash)]
 pub struct Segment {
     pub start_seq: u64,
     pub last_good_seq: u64,
@@ -102,14 +104,14 @@ pub struct Segment {
 }
 
 /// A segment's name: the reconstructor's number and the record's index in the list, from 0.
-#[derive(Debug, Clone, Copy, PartialEq, Eq)]
+#[derive(Debug, Clone, Copy, PartialEq, Eq, Hash)]
 pub struct SegmentName {
     pub number: u64,
     pub place: u64,
 }
 
 /// A handshake value. `start_seq` is what the value claims; 01 reads the segment's record instead.
-#[derive(Debug, Clone, Copy, PartialEq, Eq)]
+#[derive(Debug, Clone, Copy, PartialEq, Eq, Hash)]
 pub struct Handshake {
     pub segment: SegmentName,
     pub start_seq: u64,
@@ -117,7 +119,7 @@ pub struct Handshake {
     pub ended: bool,
 }
 
-#[derive(Debug, Clone, Copy, PartialEq, Eq)]
+#[derive(Debug, Clone, Copy, PartialEq, Eq, Hash)]
 pub enum Anchor {
     /// The ahead-list holds `orders` entries of three words: id high, id low, entered_at.
     Hypothetical {
@@ -131,7 +133,7 @@ pub enum Anchor {
 }
 
 /// An estimate value; its ahead-list is memory beside it.
-#[derive(Debug, Clone, Copy, PartialEq, Eq)]
+#[derive(Debug, Clone, Copy, PartialEq, Eq, Hash)]
 pub struct Estimate {
     pub side: Side,
     pub price: i64,
@@ -139,7 +141,7 @@ pub struct Estimate {
     pub anchor: Anchor,
 }
 
-#[derive(Debug, Clone, Copy, PartialEq, Eq)]
+#[derive(Debug, Clone, Copy, PartialEq, Eq, Hash)]
 pub enum Status {
     NoSnapshot,
     Valid,
@@ -205,7 +207,7 @@ impl Counts {
 ///
 /// Rows, segments and an estimate's ahead-list are prefixes of memory that lasts: a length past its end lends all of it.
 /// Scratch, output and the list that `queue_estimate` writes are fresh, filled by [`fresh_words`].
-#[derive(Debug, Clone, Copy, PartialEq, Eq, Default)]
+#[derive(Debug, Clone, Copy, PartialEq, Eq, Default, Hash)]
 pub struct Lent {
     pub rows: u64,
     pub segments: u64,
@@ -215,7 +217,7 @@ pub struct Lent {
 }
 
 /// A field of the state value, for the host's damage.
-#[derive(Debug, Clone, Copy, PartialEq, Eq)]
+#[derive(Debug, Clone, Copy, PartialEq, Eq, Hash)]
 pub enum Field {
     Rows(u64),
     Segments(u64),
@@ -226,7 +228,7 @@ pub enum Field {
 }
 
 /// What is called. Slots of handshakes and estimates are shared by all books.
-#[derive(Debug, Clone, PartialEq, Eq)]
+#[derive(Debug, Clone, PartialEq, Eq, Hash)]
 pub enum Act {
     /// A new book in the call's slot, with memory of its own.
     Create {
@@ -300,7 +302,7 @@ pub enum Act {
 }
 
 /// One call on the book in slot `book`.
-#[derive(Debug, Clone, PartialEq, Eq)]
+#[derive(Debug, Clone, PartialEq, Eq, Hash)]
 pub struct Call {
     pub book: u8,
     pub lent: Lent,
@@ -533,6 +535,30 @@ impl Digest {
 
     pub fn value(self) -> u64 {
         self.0
+    }
+}
+
+/// For [`Call::digest`].
+impl Hasher for Digest {
+    fn write(&mut self, bytes: &[u8]) {
+        for chunk in bytes.chunks(8) {
+            let mut word = [0; 8];
+            word[..chunk.len()].copy_from_slice(chunk);
+            self.word(u64::from_le_bytes(word));
+        }
+    }
+
+    fn finish(&self) -> u64 {
+        self.0
+    }
+}
+
+impl Call {
+    /// The same for equal calls, wherever in a stream they come.
+    pub fn digest(&self) -> u64 {
+        let mut digest = Digest::default();
+        self.hash(&mut digest);
+        digest.value()
     }
 }
 

@@ -99,7 +99,7 @@ fn readers(seed: u64, count: u64) -> Result<(), String> {
 
 #[cfg(feature = "port")]
 fn ported(seed: u64, count: u64) -> Result<(), String> {
-    let tally = oracle::ported::compare(seed, count)?;
+    let tally = oracle::ported::compare(seed, count).map_err(|d| d.to_string())?;
     println!("{} calls agree: {tally:?}", tally.calls);
     Ok(())
 }

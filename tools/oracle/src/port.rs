@@ -45,6 +45,24 @@ mod exported {
             bytes: *const u8,
             bytes_len: usize,
         ) -> u64;
+        pub fn pinuglaw_handshake(
+            state: *const u64,
+            state_len: usize,
+            handshake: *mut u64,
+            handshake_len: usize,
+        ) -> u64;
+        pub fn pinuglaw_step(
+            state: *mut u64,
+            state_len: usize,
+            rows: *mut u64,
+            rows_len: usize,
+            segments: *mut u64,
+            segments_len: usize,
+            handshake: *mut u64,
+            handshake_len: usize,
+            message: *const u64,
+            message_len: usize,
+        ) -> u64;
         pub fn pinuglaw_rows_broken(
             rows: *const u64,
             rows_len: usize,
@@ -60,6 +78,11 @@ pub const SNAPSHOT_WORDS: usize = 5;
 pub const ORDER_WORDS: usize = 4;
 /// The words of a book's state.
 pub const BLOCK_WORDS: usize = 27;
+/// The words of a handshake: the reconstructor's number, the segment's place, ended, messages applied.
+pub const HANDSHAKE_WORDS: usize = 4;
+/// The answers of `apply` and `step` where the book changed, and of `step` where the message was dropped.
+pub const CHANGED: u64 = 256;
+pub const DROPPED: u64 = 512;
 
 /// Reads a message piece into words; the answer is 01's number, 0 for success.
 pub fn read_message(bytes: &[u8], out: &mut [u64]) -> u64 {
@@ -90,7 +113,7 @@ pub fn rows_broken(rows: &[u64], n: usize, max_levels: usize) -> bool {
     unsafe { exported::pinuglaw_rows_broken(rows.as_ptr(), rows.len(), n, max_levels) }
 }
 
-/// Applies a message, handed over as its words: the number, and 256 more where the book changed.
+/// Applies a message, handed over as its words: the number, or [`CHANGED`].
 pub fn apply(state: &mut [u64], rows: &mut [u64], segments: &mut [u64], message: &[u64]) -> u64 {
     // SAFETY: as above; the borrows keep the slices apart.
     unsafe {
@@ -120,6 +143,44 @@ pub fn bootstrap(state: &mut [u64], rows: &mut [u64], segments: &mut [u64], byte
             segments.len(),
             bytes.as_ptr(),
             bytes.len(),
+        )
+    }
+}
+
+/// Makes a handshake for the segment that the book is in.
+pub fn handshake(state: &[u64], handshake: &mut [u64]) -> u64 {
+    // SAFETY: as above.
+    unsafe {
+        exported::pinuglaw_handshake(
+            state.as_ptr(),
+            state.len(),
+            handshake.as_mut_ptr(),
+            handshake.len(),
+        )
+    }
+}
+
+/// Steps a handshake by one message: the number, [`CHANGED`] or [`DROPPED`].
+pub fn step(
+    state: &mut [u64],
+    rows: &mut [u64],
+    segments: &mut [u64],
+    handshake: &mut [u64],
+    message: &[u64],
+) -> u64 {
+    // SAFETY: as above.
+    unsafe {
+        exported::pinuglaw_step(
+            state.as_mut_ptr(),
+            state.len(),
+            rows.as_mut_ptr(),
+            rows.len(),
+            segments.as_mut_ptr(),
+            segments.len(),
+            handshake.as_mut_ptr(),
+            handshake.len(),
+            message.as_ptr(),
+            message.len(),
         )
     }
 }

@@ -1,4 +1,4 @@
-//! The port's `bootstrap`, `apply`, reads and estimates beside the Rust and the model. Built with the feature `port` only; SEED, STREAMS and CALLS give another run.
+//! Every call of the port beside the Rust and the model. Built with the feature `port` only; SEED, STREAMS and CALLS give another run.
 //!
 //! A call costs as much as its book is large, and a stream's books grow. So most calls are made in short streams, and one long
 //! stream fills a book to the ceiling.
@@ -26,6 +26,22 @@ const NUMBERS: &[(&str, &[u8])] = &[
         "apply",
         &[30, 31, 32, 33, 34, 35, 36, 37, 38, 39, 40, 41, 42, 43, 44],
     ),
+    ("handshake", &[0]),
+    ("step", &[0, 1, 2, 3, 4, 5, 9, 10, 17, 20, 21, 22]),
+    (
+        "step",
+        &[30, 31, 32, 33, 34, 35, 36, 37, 38, 39, 40, 41, 42, 43, 44],
+    ),
+    (
+        "bootstrap_with_buffer",
+        &[0, 1, 2, 3, 4, 5, 6, 10, 11, 12, 13, 14, 20, 21, 22],
+    ),
+    (
+        "bootstrap_with_buffer",
+        &[30, 31, 32, 33, 34, 35, 36, 37, 38, 39, 40, 41, 42, 43, 44],
+    ),
+    ("read_message", &[0, 4, 5]),
+    ("read_snapshot", &[0, 4, 5]),
     ("last_sequence", &[0, 1, 2, 3, 15, 18]),
     ("best", &[0, 1, 2, 3, 15, 18]),
     ("audit", &[0, 1, 2, 3, 15, 18]),
@@ -38,19 +54,17 @@ const NUMBERS: &[(&str, &[u8])] = &[
     ("volume_ahead", &[0, 1, 2, 3, 8, 15, 18, 50, 51, 52]),
 ];
 
-/// Every number was answered, and most messages were applied.
 fn reaches_every_number(tally: &Tally) {
-    all_met(tally, NUMBERS);
-    let applied = tally.times("apply", 0);
-    assert!(applied > tally.calls / 4, "messages are applied");
-}
-
-fn all_met(tally: &Tally, numbers: &[(&str, &[u8])]) {
-    for &(name, numbers) in numbers {
+    for &(name, numbers) in NUMBERS {
         for &number in numbers {
             assert!(tally.times(name, number) > 0, "{name} says {number}");
         }
     }
+}
+
+fn applies_messages(tally: &Tally) {
+    let applied = tally.times("apply", 0);
+    assert!(applied > tally.calls / 4, "messages are applied");
 }
 
 /// A book was filled to the ceiling, and one by messages alone but for the few orders of its snapshot.
@@ -67,6 +81,7 @@ fn short_streams_agree() {
         all.add(&agree(seed, SHORT));
     }
     println!("{streams} streams from seed {seed} on: {all:?}");
+    applies_messages(&all);
     reaches_every_number(&all);
     let missing = all.cases.missing();
     assert!(missing.is_empty(), "never met: {missing:?}");
@@ -77,6 +92,6 @@ fn a_long_stream_agrees() {
     let (seed, calls) = (setting("SEED", 51), setting("CALLS", 100_000));
     let tally = agree(seed, calls);
     println!("seed {seed}: {tally:?}");
-    reaches_every_number(&tally);
+    applies_messages(&tally);
     fills_a_book(&tally);
 }

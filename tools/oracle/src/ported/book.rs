@@ -3,7 +3,7 @@
 use super::forms;
 use crate::call::{
     Act, Counts, Field, Invalidation, Lent, Memory, Rules, Segment, SegmentEnd, SizeDecrease,
-    State, Status, digest_segments, digest_words, fresh_rows, fresh_segments,
+    State, Status, Values, digest_segments, digest_words, fresh_rows, fresh_segments,
 };
 use crate::piece::Product;
 use crate::port;
@@ -31,6 +31,7 @@ pub struct Book {
 pub mod at {
     pub const DECREASE: usize = 2;
     pub const MAX_ORDERS: usize = 3;
+    pub const MAX_LEVELS: usize = 4;
     pub const NUMBER: usize = 5;
     pub const STATUS: usize = 6;
     pub const LAST: usize = 7;
@@ -276,11 +277,7 @@ impl Book {
 
     fn show(&self) -> State {
         let records = self.records();
-        let mut counts = Counts::default();
-        for index in 0..12 {
-            *counts.slot(index) = self.block[at::COUNTS + index];
-        }
-        let (rows, segments) = (self.block[at::ROWS], self.block[at::SEGMENTS]);
+        let (rows, segments) = (self.block[at::ROWS], self.segments());
         let last = segments
             .checked_sub(1)
             .and_then(|i| usize::try_from(i).ok());
@@ -290,7 +287,7 @@ impl Book {
             segments,
             last_sequence: self.last_sequence,
             status: self.status(),
-            counts,
+            counts: self.counts(),
             last_segment: last.and_then(|i| records.get(i).copied()),
             levels: None,
             memory: Some(Memory {
@@ -319,6 +316,45 @@ impl Book {
 
     pub fn number(&self) -> u64 {
         self.block[at::NUMBER]
+    }
+
+    pub fn segments(&self) -> u64 {
+        self.block[at::SEGMENTS]
+    }
+
+    /// The start of the last segment, 0 where the memory has no such record.
+    pub fn start_seq(&self) -> u64 {
+        let place = self.segments().checked_sub(1);
+        let record = place.and_then(|place| self.records().get(place as usize).copied());
+        record.map_or(0, |record| record.start_seq)
+    }
+
+    /// What the words say of the book, and the records below both the segment count and the lent length.
+    pub fn manifest(&self, lent: &Lent) -> Values {
+        let product = u128::from(self.block[0]) << 64 | u128::from(self.block[1]);
+        let shown = self.segments().min(lent.segments);
+        Values::Manifest {
+            product: product.to_be_bytes(),
+            rules: Rules {
+                size_decrease: match self.block[at::DECREASE] {
+                    0 => SizeDecrease::KeepsPriority,
+                    _ => SizeDecrease::PriorityUnknown,
+                },
+                max_orders: self.max_orders(),
+                max_levels: self.block[at::MAX_LEVELS],
+            },
+            number: self.number(),
+            counts: self.counts(),
+            segments: self.records().into_iter().take(shown as usize).collect(),
+        }
+    }
+
+    fn counts(&self) -> Counts {
+        let mut counts = Counts::default();
+        for index in 0..12 {
+            *counts.slot(index) = self.block[at::COUNTS + index];
+        }
+        counts
     }
 
     /// Whether as many rows are lent as number 2 asks for.

@@ -7,6 +7,7 @@ use super::forms;
 use super::reads::{Held, entry_words};
 use crate::call::{Act, Anchor, Assumption, CEILING, Estimate, Lent, Values};
 use crate::piece::{Id, Side};
+use crate::port;
 
 /// How often each case of each call was met.
 #[derive(Debug, Default)]
@@ -23,10 +24,11 @@ impl Cases {
         }
     }
 
-    /// Those of [`EXPECTED`], and of each of its calls the forms of a state, that were not met.
+    /// Those of [`EXPECTED`], of each of its calls the forms of a state, and of [`BETWEEN`], that were not met.
     pub fn missing(&self) -> Vec<(&'static str, &'static str)> {
         let forms = EXPECTED.iter().map(|&(call, _)| (call, forms::COMMON));
-        let all = EXPECTED.iter().copied().chain(forms);
+        let between = [("between steps", BETWEEN)];
+        let all = EXPECTED.iter().copied().chain(forms).chain(between);
         all.flat_map(|(call, cases)| cases.iter().map(move |&case| (call, case)))
             .filter(|case| !self.0.contains_key(case))
             .collect()
@@ -37,6 +39,11 @@ impl Cases {
 pub const EXPECTED: &[(&str, &[&str])] = &[
     ("apply", APPLY),
     ("bootstrap", BOOTSTRAP),
+    (
+        "handshake",
+        &["state short", "handshake short", "no segment"],
+    ),
+    ("step", STEP),
     ("last_sequence", &["state short", "fixed output short"]),
     ("best", &["state short", "fixed output short"]),
     ("audit", &["state short"]),
@@ -62,6 +69,60 @@ const APPLY: &[&str] = &[
     "refused in another form",
 ];
 
+const STEP: &[&str] = &[
+    "state short",
+    "handshake short",
+    "message short",
+    "another form of a message",
+    "accepted in another form",
+    "invalidated in another form",
+    "dropped in another form",
+    "10 in another form",
+    "17 in another form",
+    "refused in another form",
+    "dropped",
+    "dropped while invalid",
+    "changed the book",
+    "without effect",
+    "applied stops",
+    "9 on a fresh book",
+    "9 of an ended one",
+    "9 of one ended in another form",
+    "9 of another segment",
+    "10 passes by",
+    "16 ends it",
+    "17 ends it",
+];
+
+/// The calls that must come between two steps of a handshake on one book, neither of them 9.
+const BETWEEN: &[&str] = &[
+    "bootstrap",
+    "apply",
+    "handshake",
+    "step",
+    "bootstrap_with_buffer",
+    "level_queue",
+    "priority_profile",
+    "stale_l2",
+    "l2",
+    "best",
+    "last_sequence",
+    "audit",
+    "queue_estimate",
+    "queue_estimate_own",
+    "volume_ahead",
+    "manifest",
+    "invalidation",
+    "read_message",
+    "read_snapshot",
+    "set_row",
+    "set_segment",
+    "set_state",
+    "forge_handshake",
+    "forge_estimate",
+    "set_ahead",
+];
+
 const BOOTSTRAP: &[&str] = &[
     "state short",
     "detail above 1",
@@ -77,7 +138,7 @@ const BOOTSTRAP: &[&str] = &[
 /// What a call answered that was lent another form of its state.
 pub fn outcome(answer: u64) -> &'static str {
     match answer {
-        0 | 256 => "accepted in another form",
+        0 | port::CHANGED => "accepted in another form",
         10 => "10 in another form",
         11 => "11 in another form",
         12 => "12 in another form",
@@ -85,6 +146,7 @@ pub fn outcome(answer: u64) -> &'static str {
         14 => "14 in another form",
         16 => "invalidated in another form",
         17 => "17 in another form",
+        port::DROPPED => "dropped in another form",
         _ => "refused in another form",
     }
 }

@@ -28,7 +28,8 @@ pub struct Held {
 #[derive(Default)]
 pub struct Reads {
     estimates: BTreeMap<u8, Held>,
-    calls: u64,
+    /// Drawn for each call: the form of its words.
+    turn: u64,
 }
 
 /// Whether it is one of the calls dealt with here.
@@ -391,9 +392,10 @@ impl Reads {
         &mut self,
         books: &BTreeMap<u8, Book>,
         call: &Call,
+        turn: u64,
         cases: &mut Cases,
     ) -> Option<Reply> {
-        self.calls += 1;
+        self.turn = turn;
         match &call.act {
             Act::ForgeEstimate {
                 slot,
@@ -416,14 +418,14 @@ impl Reads {
     }
 
     fn sell(&self) -> u64 {
-        NOT_ZERO[self.calls as usize % 4]
+        NOT_ZERO[self.turn as usize % 4]
     }
 
     fn forged(&self, estimate: &Estimate, list: &[u64]) -> Held {
-        let own = NOT_ZERO[self.calls as usize / 4 % 4];
+        let own = NOT_ZERO[self.turn as usize / 4 % 4];
         Held {
             estimate: *estimate,
-            words: estimate_words(estimate, self.sell(), own, self.calls % 2 * GUARD),
+            words: estimate_words(estimate, self.sell(), own, self.turn % 2 * GUARD),
             list: list.to_vec(),
         }
     }
@@ -441,15 +443,15 @@ impl Reads {
             held,
             sell: self.sell(),
         };
-        if self.calls.is_multiple_of(SHORT_PERIOD)
-            && let Some(case) = asked.short(self.calls / SHORT_PERIOD)
+        if self.turn.is_multiple_of(SHORT_PERIOD)
+            && let Some(case) = asked.short(self.turn / SHORT_PERIOD)
         {
             cases.add(act.name(), case);
         }
         for form in forms::of(&book.block) {
             cases.add(act.name(), form);
         }
-        let (reply, made) = asked.reply(self.calls, cases);
+        let (reply, made) = asked.reply(self.turn, cases);
         if let (Act::QueueEstimate { slot, .. } | Act::QueueEstimateOwn { slot, .. }, Some(made)) =
             (act, made)
         {
