@@ -100,7 +100,7 @@ fn add(to: &mut History, from: &History) {
 
 /// The calls that bear on call `place` of the seed's stream: its book's since creation, those that made the slot it names,
 /// and so on for the books and handshakes that these rest on.
-fn leading(seed: u64, place: u64) -> Vec<Call> {
+pub fn leading(seed: u64, place: u64) -> Vec<Call> {
     let mut generator = Generator::new(seed);
     let mut books: BTreeMap<u8, History> = BTreeMap::new();
     let mut slots: BTreeMap<Slot, History> = BTreeMap::new();

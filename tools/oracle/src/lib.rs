@@ -23,6 +23,7 @@ pub mod rows;
 pub mod rust;
 #[cfg(feature = "port")]
 pub mod show;
+pub mod shrink;
 
 /// The Rust being ported, byte for byte.
 #[allow(dead_code)]

@@ -6,13 +6,17 @@ use std::process::ExitCode;
 
 use oracle::call::{Call, Subject};
 use oracle::compare::compare;
+use oracle::difference::first;
 use oracle::generate::Generator;
 use oracle::model::Model;
 use oracle::pieces;
+#[cfg(feature = "port")]
+use oracle::ported::Ported;
 use oracle::rust::Rust;
+use oracle::shrink::{Small, shrink};
 
 const USAGE: &str = "usage: oracle gen SEED N | run | model | compare SEED N | pieces DIR
-with the feature `port`: oracle reader SEED N | port SEED N | bench [NAME ..] | show";
+with the feature `port`: oracle reader SEED N | port SEED N [THREADS] | ported SEED | bench [NAME ..] | show";
 
 fn main() -> ExitCode {
     let args: Vec<String> = std::env::args().skip(1).collect();
@@ -26,7 +30,13 @@ fn main() -> ExitCode {
         #[cfg(feature = "port")]
         ["reader", seed, count] => numbers(seed, count).and_then(|(s, n)| readers(s, n)),
         #[cfg(feature = "port")]
-        ["port", seed, count] => numbers(seed, count).and_then(|(s, n)| ported(s, n)),
+        ["port", seed, count] => numbers(seed, count).and_then(|(s, n)| ported(s, n, cores())),
+        #[cfg(feature = "port")]
+        ["port", seed, count, threads] => numbers(seed, count)
+            .and_then(|(s, n)| Ok((s, n, number(threads)? as usize)))
+            .and_then(|(s, n, threads)| ported(s, n, threads.max(1))),
+        #[cfg(feature = "port")]
+        ["ported", seed] => number(seed).and_then(|s| answer(&mut Ported::new(s))),
         #[cfg(feature = "port")]
         ["bench", names @ ..] => oracle::bench::run(names),
         #[cfg(feature = "port")]
@@ -42,11 +52,12 @@ fn main() -> ExitCode {
     }
 }
 
+fn number(text: &str) -> Result<u64, String> {
+    text.parse().map_err(|_| USAGE.to_string())
+}
+
 fn numbers(seed: &str, count: &str) -> Result<(u64, u64), String> {
-    match (seed.parse(), count.parse()) {
-        (Ok(seed), Ok(count)) => Ok((seed, count)),
-        _ => Err(USAGE.to_string()),
-    }
+    Ok((number(seed)?, number(count)?))
 }
 
 fn generate(seed: u64, count: u64) -> Result<(), String> {
@@ -80,11 +91,10 @@ fn side_by_side(seed: u64, count: u64) -> Result<(), String> {
             Ok(())
         }
         Err(difference) => {
-            for call in &difference.calls {
-                println!("{call}");
-            }
-            println!("rust  {}", difference.rust);
-            println!("model {}", difference.other);
+            let calls = difference.calls;
+            let kind = first(&calls, Model::new()).map(|(_, kind, _)| kind);
+            let small = kind.and_then(|kind| shrink(calls, &kind, Model::new));
+            tell(small);
             Err(format!("first difference at call {}", difference.call))
         }
     }
@@ -97,9 +107,38 @@ fn readers(seed: u64, count: u64) -> Result<(), String> {
     Ok(())
 }
 
+/// Prints the few calls that show a difference, for `run`, `model` and `ported` to answer.
+fn tell(small: Option<Small>) {
+    let Some(small) = small else {
+        eprintln!("the calls that lead to it show no such difference by themselves");
+        return;
+    };
+    for call in &small.calls {
+        println!("{call}");
+    }
+    eprintln!("{}\n{}", small.kind, small.answers);
+}
+
 #[cfg(feature = "port")]
-fn ported(seed: u64, count: u64) -> Result<(), String> {
-    let tally = oracle::ported::compare(seed, count).map_err(|d| d.to_string())?;
-    println!("{} calls agree: {tally:?}", tally.calls);
-    Ok(())
+fn cores() -> usize {
+    std::thread::available_parallelism().map_or(1, usize::from)
+}
+
+#[cfg(feature = "port")]
+fn ported(seed: u64, count: u64, threads: usize) -> Result<(), String> {
+    let began = std::time::Instant::now();
+    match oracle::ported::run(seed, count, threads) {
+        Ok((tally, streams)) => {
+            println!(
+                "{} calls agree, in {streams} streams of seed {seed} on, {} s: {tally:?}",
+                tally.calls,
+                began.elapsed().as_secs()
+            );
+            Ok(())
+        }
+        Err(difference) => {
+            tell(difference.small());
+            Err(difference.to_string())
+        }
+    }
 }

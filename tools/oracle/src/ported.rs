@@ -19,7 +19,7 @@ use crate::reader::message_words;
 use book::{Book, Effect, GUARDS};
 use cases::Cases;
 
-pub use run::{Difference, compare};
+pub use run::{Difference, compare, run};
 pub use tally::Tally;
 
 /// How many calls in a hundred are made before with a slice of a fixed size lent short.

@@ -1,12 +1,17 @@
 //! The port beside the model and the Rust on the generator's streams.
 
 use std::fmt::{self, Display};
+use std::panic::{set_hook, take_hook};
+use std::sync::{Mutex, PoisonError};
+use std::thread;
 
 use super::{Ported, Tally};
 use crate::call::{Answer, Call};
+use crate::compare::leading;
 use crate::difference::{Answers, Kind};
 use crate::generate::Generator;
 use crate::model::Model;
+use crate::shrink::{Small, shrink};
 
 /// Where a stream's answers differ.
 pub struct Difference {
@@ -22,6 +27,23 @@ impl Display for Difference {
     fn fmt(&self, f: &mut fmt::Formatter<'_>) -> fmt::Result {
         writeln!(f, "seed {}, call {}: {}", self.seed, self.place, self.kind)?;
         write!(f, "{}\n{}", self.call, self.answers)
+    }
+}
+
+impl Difference {
+    /// The few calls that show it: from those that bear on it, or else from the whole stream up to it.
+    pub fn small(&self) -> Option<Small> {
+        let fresh = || Ported::new(self.seed);
+        // Each trial may panic, as the call itself may have.
+        let hook = take_hook();
+        set_hook(Box::new(|_| {}));
+        let bearing = leading(self.seed, self.place);
+        let small = shrink(bearing, &self.kind, fresh).or_else(|| {
+            let whole = Generator::new(self.seed).take(self.place as usize);
+            shrink(whole.collect(), &self.kind, fresh)
+        });
+        set_hook(hook);
+        small
     }
 }
 
@@ -49,4 +71,80 @@ pub fn compare(seed: u64, count: u64) -> Result<Tally, Box<Difference>> {
     }
     tally.cases = port.cases;
     Ok(tally)
+}
+
+/// Calls of a short and of a long stream. A call costs as much as its book is large, and a stream's books grow: so most calls are made
+/// in short streams. A long one fills a book to the ceiling.
+const SHORT: u64 = 4_000;
+const LONG: u64 = 100_000;
+/// One stream in so many is a long one.
+const PERIOD: u64 = 50;
+/// How often the run says how far it is, in calls.
+const NEWS: u64 = 1_000_000;
+
+/// The streams of a run, in the order of their seeds.
+struct Plan {
+    first: u64,
+    streams: u64,
+    left: u64,
+    planned: u64,
+}
+
+impl Plan {
+    /// The seed and the calls of the next stream.
+    fn next(&mut self) -> Option<(u64, u64)> {
+        let length = match self.streams % PERIOD {
+            0 => LONG,
+            _ => SHORT,
+        };
+        let calls = length.min(self.left);
+        if calls == 0 {
+            return None;
+        }
+        let seed = self.first.wrapping_add(self.streams);
+        if (self.planned + calls) / NEWS > self.planned / NEWS {
+            eprintln!("{} calls planned, up to seed {seed}", self.planned + calls);
+        }
+        (self.streams, self.left) = (self.streams + 1, self.left - calls);
+        self.planned += calls;
+        Some((seed, calls))
+    }
+}
+
+/// Runs `count` calls in the streams of the seeds from `seed` on, split between threads; tells what they met and the number of streams.
+pub fn run(seed: u64, count: u64, threads: usize) -> Result<(Tally, u64), Box<Difference>> {
+    let plan = Mutex::new(Plan {
+        first: seed,
+        streams: 0,
+        left: count,
+        planned: 0,
+    });
+    let lock = || plan.lock().unwrap_or_else(PoisonError::into_inner);
+    let work = || {
+        let mut tally = Tally::default();
+        loop {
+            let Some((seed, calls)) = lock().next() else {
+                return Ok(tally);
+            };
+            match compare(seed, calls) {
+                Ok(stream) => tally.add(&stream),
+                Err(difference) => {
+                    // Nobody begins another stream.
+                    lock().left = 0;
+                    return Err(difference);
+                }
+            }
+        }
+    };
+    let ended: Vec<Result<Tally, Box<Difference>>> = thread::scope(|scope| {
+        let workers: Vec<_> = (0..threads).map(|_| scope.spawn(work)).collect();
+        let join = |worker: thread::ScopedJoinHandle<_>| worker.join().expect("no panic is left");
+        workers.into_iter().map(join).collect()
+    });
+    let mut all = Tally::default();
+    for tally in ended {
+        all.add(&tally?);
+    }
+    let streams = lock().streams;
+    Ok((all, streams))
 }
