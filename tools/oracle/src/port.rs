@@ -2,6 +2,7 @@
 //!
 //! The declarations are by hand: nothing checks them against the source of crate `host`, so the runs of `reader.rs` and `ported.rs` do.
 
+pub mod lend;
 pub mod reads;
 
 mod exported {
@@ -86,76 +87,89 @@ pub const DROPPED: u64 = 512;
 
 /// Reads a message piece into words; the answer is 01's number, 0 for success.
 pub fn read_message(bytes: &[u8], out: &mut [u64]) -> u64 {
+    let bytes = lend::read(bytes);
+    let out = lend::write(out);
     // SAFETY: both slices are lent whole for the call, and the function keeps neither.
-    unsafe {
-        exported::pinuglaw_read_message(bytes.as_ptr(), bytes.len(), out.as_mut_ptr(), out.len())
-    }
+    unsafe { exported::pinuglaw_read_message(bytes.at(), bytes.length(), out.at(), out.length()) }
 }
 
 /// Reads a snapshot piece's header into words.
 pub fn read_snapshot(bytes: &[u8], out: &mut [u64]) -> u64 {
+    let bytes = lend::read(bytes);
+    let out = lend::write(out);
     // SAFETY: as above.
-    unsafe {
-        exported::pinuglaw_read_snapshot(bytes.as_ptr(), bytes.len(), out.as_mut_ptr(), out.len())
-    }
+    unsafe { exported::pinuglaw_read_snapshot(bytes.at(), bytes.length(), out.at(), out.length()) }
 }
 
 /// Reads the order at a place of a snapshot piece into words.
 pub fn snapshot_order(bytes: &[u8], place: usize, out: &mut [u64]) -> u64 {
-    let (data, length) = (out.as_mut_ptr(), out.len());
+    let bytes = lend::read(bytes);
+    let out = lend::write(out);
+    let (data, length) = (out.at(), out.length());
     // SAFETY: as above.
-    unsafe { exported::pinuglaw_snapshot_order(bytes.as_ptr(), bytes.len(), place, data, length) }
+    unsafe { exported::pinuglaw_snapshot_order(bytes.at(), bytes.length(), place, data, length) }
 }
 
 /// Number 3's part on the rows.
 pub fn rows_broken(rows: &[u64], n: usize, max_levels: usize) -> bool {
+    let rows = lend::read(rows);
     // SAFETY: as above.
-    unsafe { exported::pinuglaw_rows_broken(rows.as_ptr(), rows.len(), n, max_levels) }
+    unsafe { exported::pinuglaw_rows_broken(rows.at(), rows.length(), n, max_levels) }
 }
 
 /// Applies a message, handed over as its words: the number, or [`CHANGED`].
 pub fn apply(state: &mut [u64], rows: &mut [u64], segments: &mut [u64], message: &[u64]) -> u64 {
+    let state = lend::write(state);
+    let rows = lend::write(rows);
+    let segments = lend::write(segments);
+    let message = lend::read(message);
     // SAFETY: as above; the borrows keep the slices apart.
     unsafe {
         exported::pinuglaw_apply(
-            state.as_mut_ptr(),
-            state.len(),
-            rows.as_mut_ptr(),
-            rows.len(),
-            segments.as_mut_ptr(),
-            segments.len(),
-            message.as_ptr(),
-            message.len(),
+            state.at(),
+            state.length(),
+            rows.at(),
+            rows.length(),
+            segments.at(),
+            segments.length(),
+            message.at(),
+            message.length(),
         )
     }
 }
 
 /// Loads a snapshot piece.
 pub fn bootstrap(state: &mut [u64], rows: &mut [u64], segments: &mut [u64], bytes: &[u8]) -> u64 {
+    let state = lend::write(state);
+    let rows = lend::write(rows);
+    let segments = lend::write(segments);
+    let bytes = lend::read(bytes);
     // SAFETY: as above.
     unsafe {
         exported::pinuglaw_bootstrap(
-            state.as_mut_ptr(),
-            state.len(),
-            rows.as_mut_ptr(),
-            rows.len(),
-            segments.as_mut_ptr(),
-            segments.len(),
-            bytes.as_ptr(),
-            bytes.len(),
+            state.at(),
+            state.length(),
+            rows.at(),
+            rows.length(),
+            segments.at(),
+            segments.length(),
+            bytes.at(),
+            bytes.length(),
         )
     }
 }
 
 /// Makes a handshake for the segment that the book is in.
 pub fn handshake(state: &[u64], handshake: &mut [u64]) -> u64 {
+    let state = lend::read(state);
+    let handshake = lend::write(handshake);
     // SAFETY: as above.
     unsafe {
         exported::pinuglaw_handshake(
-            state.as_ptr(),
-            state.len(),
-            handshake.as_mut_ptr(),
-            handshake.len(),
+            state.at(),
+            state.length(),
+            handshake.at(),
+            handshake.length(),
         )
     }
 }
@@ -168,19 +182,24 @@ pub fn step(
     handshake: &mut [u64],
     message: &[u64],
 ) -> u64 {
+    let state = lend::write(state);
+    let rows = lend::write(rows);
+    let segments = lend::write(segments);
+    let handshake = lend::write(handshake);
+    let message = lend::read(message);
     // SAFETY: as above.
     unsafe {
         exported::pinuglaw_step(
-            state.as_mut_ptr(),
-            state.len(),
-            rows.as_mut_ptr(),
-            rows.len(),
-            segments.as_mut_ptr(),
-            segments.len(),
-            handshake.as_mut_ptr(),
-            handshake.len(),
-            message.as_ptr(),
-            message.len(),
+            state.at(),
+            state.length(),
+            rows.at(),
+            rows.length(),
+            segments.at(),
+            segments.length(),
+            handshake.at(),
+            handshake.length(),
+            message.at(),
+            message.length(),
         )
     }
 }

@@ -1,6 +1,8 @@
 //! The reads and estimates that crate `host` exports. A side is a word, 0 buy, else sell; an amount is its two's-complement word.
 //! The answer is 0 or 01's number; 7 also where a slice of a fixed size is shorter than that, and then nothing is touched.
 
+use super::lend;
+
 /// The words of a best pair, of an estimate and of a volume ahead; one word counts the entries of a level read.
 pub const BEST_WORDS: usize = 4;
 pub const ESTIMATE_WORDS: usize = 8;
@@ -139,37 +141,45 @@ mod exported {
 
 /// Writes the sequence.
 pub fn last_sequence(state: &[u64], rows: &[u64], out: &mut [u64]) -> u64 {
+    let state = lend::read(state);
+    let rows = lend::read(rows);
+    let out = lend::write(out);
     // SAFETY: the slices are lent whole for the call, the borrows keep them apart, and the function keeps none.
     unsafe {
         exported::pinuglaw_last_sequence(
-            state.as_ptr(),
-            state.len(),
-            rows.as_ptr(),
-            rows.len(),
-            out.as_mut_ptr(),
-            out.len(),
+            state.at(),
+            state.length(),
+            rows.at(),
+            rows.length(),
+            out.at(),
+            out.length(),
         )
     }
 }
 
 /// Writes bid present, bid, ask present, ask; an absent price is 0.
 pub fn best(state: &[u64], rows: &[u64], out: &mut [u64]) -> u64 {
+    let state = lend::read(state);
+    let rows = lend::read(rows);
+    let out = lend::write(out);
     // SAFETY: as above.
     unsafe {
         exported::pinuglaw_best(
-            state.as_ptr(),
-            state.len(),
-            rows.as_ptr(),
-            rows.len(),
-            out.as_mut_ptr(),
-            out.len(),
+            state.at(),
+            state.length(),
+            rows.at(),
+            rows.length(),
+            out.at(),
+            out.length(),
         )
     }
 }
 
 pub fn audit(state: &[u64], rows: &[u64]) -> u64 {
+    let state = lend::read(state);
+    let rows = lend::read(rows);
     // SAFETY: as above.
-    unsafe { exported::pinuglaw_audit(state.as_ptr(), state.len(), rows.as_ptr(), rows.len()) }
+    unsafe { exported::pinuglaw_audit(state.at(), state.length(), rows.at(), rows.length()) }
 }
 
 /// Writes five words an order.
@@ -181,21 +191,26 @@ pub fn level_queue(
     out: &mut [u64],
     count: &mut [u64],
 ) -> u64 {
+    let state = lend::read(state);
+    let rows = lend::read(rows);
+    let scratch = lend::write(scratch);
+    let out = lend::write(out);
+    let count = lend::write(count);
     // SAFETY: as above.
     unsafe {
         exported::pinuglaw_level_queue(
-            state.as_ptr(),
-            state.len(),
-            rows.as_ptr(),
-            rows.len(),
-            scratch.as_mut_ptr(),
-            scratch.len(),
+            state.at(),
+            state.length(),
+            rows.at(),
+            rows.length(),
+            scratch.at(),
+            scratch.length(),
             side,
             price,
-            out.as_mut_ptr(),
-            out.len(),
-            count.as_mut_ptr(),
-            count.len(),
+            out.at(),
+            out.length(),
+            count.at(),
+            count.length(),
         )
     }
 }
@@ -209,20 +224,25 @@ fn level_read(
     out: &mut [u64],
     count: &mut [u64],
 ) -> u64 {
+    let state = lend::read(state);
+    let rows = lend::read(rows);
+    let scratch = lend::write(scratch);
+    let out = lend::write(out);
+    let count = lend::write(count);
     // SAFETY: as above.
     unsafe {
         read(
-            state.as_ptr(),
-            state.len(),
-            rows.as_ptr(),
-            rows.len(),
-            scratch.as_mut_ptr(),
-            scratch.len(),
+            state.at(),
+            state.length(),
+            rows.at(),
+            rows.length(),
+            scratch.at(),
+            scratch.length(),
             side,
-            out.as_mut_ptr(),
-            out.len(),
-            count.as_mut_ptr(),
-            count.len(),
+            out.at(),
+            out.length(),
+            count.at(),
+            count.length(),
         )
     }
 }
@@ -274,36 +294,43 @@ pub fn queue_estimate(
     ahead: &mut [u64],
     estimate: &mut [u64],
 ) -> u64 {
+    let state = lend::read(state);
+    let rows = lend::read(rows);
+    let ahead = lend::write(ahead);
+    let estimate = lend::write(estimate);
     // SAFETY: as above.
     unsafe {
         exported::pinuglaw_queue_estimate(
-            state.as_ptr(),
-            state.len(),
-            rows.as_ptr(),
-            rows.len(),
+            state.at(),
+            state.length(),
+            rows.at(),
+            rows.length(),
             side,
             price,
-            ahead.as_mut_ptr(),
-            ahead.len(),
-            estimate.as_mut_ptr(),
-            estimate.len(),
+            ahead.at(),
+            ahead.length(),
+            estimate.at(),
+            estimate.length(),
         )
     }
 }
 
 /// Writes the estimate of an own order.
 pub fn queue_estimate_own(state: &[u64], rows: &[u64], id: u128, estimate: &mut [u64]) -> u64 {
+    let state = lend::read(state);
+    let rows = lend::read(rows);
+    let estimate = lend::write(estimate);
     // SAFETY: as above.
     unsafe {
         exported::pinuglaw_queue_estimate_own(
-            state.as_ptr(),
-            state.len(),
-            rows.as_ptr(),
-            rows.len(),
+            state.at(),
+            state.length(),
+            rows.at(),
+            rows.length(),
             (id >> 64) as u64,
             id as u64,
-            estimate.as_mut_ptr(),
-            estimate.len(),
+            estimate.at(),
+            estimate.length(),
         )
     }
 }
@@ -316,19 +343,24 @@ pub fn volume_ahead(
     ahead: &[u64],
     out: &mut [u64],
 ) -> u64 {
+    let state = lend::read(state);
+    let rows = lend::read(rows);
+    let estimate = lend::read(estimate);
+    let ahead = lend::read(ahead);
+    let out = lend::write(out);
     // SAFETY: as above.
     unsafe {
         exported::pinuglaw_volume_ahead(
-            state.as_ptr(),
-            state.len(),
-            rows.as_ptr(),
-            rows.len(),
-            estimate.as_ptr(),
-            estimate.len(),
-            ahead.as_ptr(),
-            ahead.len(),
-            out.as_mut_ptr(),
-            out.len(),
+            state.at(),
+            state.length(),
+            rows.at(),
+            rows.length(),
+            estimate.at(),
+            estimate.length(),
+            ahead.at(),
+            ahead.length(),
+            out.at(),
+            out.length(),
         )
     }
 }
