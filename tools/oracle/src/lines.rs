@@ -475,7 +475,7 @@ fn bytes(text: &str) -> Parsed<Vec<u8>> {
     if text == "-" {
         return Ok(Vec::new());
     }
-    if text.len() % 2 != 0 || !text.is_ascii() {
+    if !text.len().is_multiple_of(2) || !text.is_ascii() {
         return Err(format!("{text} is not hex"));
     }
     let byte = |at: usize| u8::from_str_radix(&text[at..at + 2], 16);

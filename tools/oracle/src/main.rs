@@ -40,7 +40,10 @@ fn main() -> ExitCode {
         #[cfg(feature = "port")]
         ["bench", names @ ..] => oracle::bench::run(names),
         #[cfg(feature = "port")]
-        ["show"] => Ok(oracle::show::run()),
+        ["show"] => {
+            oracle::show::run();
+            Ok(())
+        }
         _ => Err(USAGE.to_string()),
     };
     match done {

@@ -20,7 +20,7 @@ pub fn sound(random: &mut Random, rows: usize, levels: u64) -> Vec<u64> {
     for place in 0..rows as u64 {
         let kind = random.below(4);
         let step = random.below(levels) + 1;
-        let price = if kind % 2 == 0 {
+        let price = if kind.is_multiple_of(2) {
             AMOUNT_LIMIT / 2 - step
         } else {
             AMOUNT_LIMIT / 2 + step

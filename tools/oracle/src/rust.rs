@@ -180,13 +180,7 @@ impl Rust {
                 slot,
                 piece,
                 buffer,
-            } => {
-                let reply = host.bootstrap_with_buffer(&call.lent, piece, buffer);
-                if let Values::Buffered { handshake, .. } = reply.values {
-                    self.handshakes.insert(*slot, Slot::Known(handshake));
-                }
-                Some(reply)
-            }
+            } => Some(self.buffered(&mut host, &call.lent, *slot, piece, buffer)),
             Act::QueueEstimate { slot, side, price } => {
                 Some(self.queue_estimate(&host, &call.lent, *slot, *side, *price))
             }
@@ -225,6 +219,21 @@ impl Rust {
             }
             _ => {}
         }
+    }
+
+    fn buffered(
+        &mut self,
+        host: &mut Host,
+        lent: &Lent,
+        slot: u8,
+        piece: &[u8],
+        buffer: &[Vec<u8>],
+    ) -> Reply {
+        let reply = host.bootstrap_with_buffer(lent, piece, buffer);
+        if let Values::Buffered { handshake, .. } = reply.values {
+            self.handshakes.insert(slot, Slot::Known(handshake));
+        }
+        reply
     }
 
     fn queue_estimate(

@@ -44,19 +44,23 @@ impl Generator {
                 self.follow_step(*at, answer);
                 self.follow_message(slot, piece, answer);
             }
-            (Act::Bootstrap { piece }, _) => {
-                if self.follow_snapshot(slot, piece, answer) {
-                    self.after_snapshot(slot);
-                }
+            (Act::Bootstrap { .. } | Act::BootstrapWithBuffer { .. }, _) => {
+                self.follow_bootstrap(slot, &call.act, answer);
             }
-            (
-                Act::BootstrapWithBuffer {
-                    slot: at,
-                    piece,
-                    buffer,
-                },
-                _,
-            ) => {
+            _ => {}
+        }
+    }
+
+    fn follow_bootstrap(&mut self, slot: u8, act: &Act, answer: &Answer) {
+        match act {
+            Act::Bootstrap { piece } if self.follow_snapshot(slot, piece, answer) => {
+                self.after_snapshot(slot);
+            }
+            Act::BootstrapWithBuffer {
+                slot: at,
+                piece,
+                buffer,
+            } => {
                 if self.follow_snapshot(slot, piece, answer) {
                     self.follow_buffer(slot, buffer, answer);
                 }

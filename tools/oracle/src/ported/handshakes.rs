@@ -4,7 +4,7 @@ use std::collections::BTreeSet;
 
 use super::book::{Book, GUARD, GUARDS};
 use super::{Export, Ported, Reply, SHORT_PERCENT, forms, read_message};
-use crate::call::{Act, Applied, Call, Handshake, SegmentName, Status, Stepped, Values};
+use crate::call::{Act, Applied, Call, Handshake, Lent, SegmentName, Status, Stepped, Values};
 use crate::piece::{Message, shape_message};
 use crate::port;
 
@@ -106,6 +106,17 @@ impl Before {
     }
 }
 
+/// Makes a handshake of the first words of the state and sees that nothing else is written.
+fn make(book: &Book, lent: &Lent, words: &mut Words, (state, room): (usize, usize)) -> u64 {
+    let kept = *words;
+    let number = book.read(lent, |block, _| {
+        port::handshake(&block[..state], &mut words[..room])
+    });
+    let written = if number == 0 { WORDS } else { 0 };
+    assert_eq!(words[written..], kept[written..], "words past a handshake");
+    number
+}
+
 impl Ported {
     /// The words for a handshake to be written to, junk and guards.
     fn fresh_words(&mut self) -> Words {
@@ -132,33 +143,22 @@ impl Ported {
     /// The value that a call makes of a book without a segment is looked at, but not kept: a host has no use for it.
     pub(super) fn handshake(&mut self, call: &Call, slot: u8) -> Option<Reply> {
         let mut words = self.fresh_words();
-        let more = self.random.below(GUARDS as u64 + 1) as usize;
-        let short = self.random.chance(SHORT_PERCENT).then(|| {
-            let lengths = [
-                (0, WORDS),
-                (port::BLOCK_WORDS - 1, WORDS),
-                (port::BLOCK_WORDS, 0),
-                (port::BLOCK_WORDS, WORDS - 1),
-            ];
-            self.random.pick(&lengths)
-        });
-        let book = self.books.get(&call.book)?;
-        let mut make = |state: usize, room: usize| {
-            let kept = words;
-            let answer = book.read(&call.lent, |block, _| {
-                port::handshake(&block[..state], &mut words[..room])
-            });
-            let written = if answer == 0 { WORDS } else { 0 };
-            assert_eq!(words[written..], kept[written..], "words past a handshake");
-            answer
-        };
-        if let Some((state, room)) = short {
-            assert_eq!(make(state, room), 7, "a slice is short");
-            let state_short = state < port::BLOCK_WORDS;
-            let case = ["handshake short", "state short"][usize::from(state_short)];
+        if self.random.chance(SHORT_PERCENT) {
+            let (state, room, case) = self.random.pick(&[
+                (0, WORDS, "state short"),
+                (port::BLOCK_WORDS - 1, WORDS, "state short"),
+                (port::BLOCK_WORDS, 0, "handshake short"),
+                (port::BLOCK_WORDS, WORDS - 1, "handshake short"),
+            ]);
+            let book = self.books.get(&call.book)?;
+            let number = make(book, &call.lent, &mut words, (state, room));
+            assert_eq!(number, 7, "a slice is short");
             self.cases.add("handshake", case);
         }
-        let number = make(port::BLOCK_WORDS + more, WORDS + more);
+        let more = self.random.below(GUARDS as u64 + 1) as usize;
+        let book = self.books.get(&call.book)?;
+        let lengths = (port::BLOCK_WORDS + more, WORDS + more);
+        let number = make(book, &call.lent, &mut words, lengths);
         for form in forms::of(&book.block) {
             self.cases.add("handshake", form);
         }
