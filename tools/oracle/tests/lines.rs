@@ -68,6 +68,8 @@ fn bad_lines_are_refused() {
         "apply 0 1 2 3 4 5 zz",
         "l2 0 1 2 3 4 5 2",
         "set_state 0 1 2 3 4 5 count 12 1",
+        "bootstrap_with_buffer 0 1 2 3 4 5 6",
+        "bootstrap_with_buffer 0 1 2 3 4 5 6 - 00 zz",
     ] {
         assert!(line.parse::<Call>().is_err(), "{line}");
     }

@@ -20,6 +20,9 @@ mod at {
     pub const APPLIED: usize = 3;
 }
 
+/// Words that say that a handshake ended: any but 0.
+const ENDED: [u64; 5] = [1, 2, 1 << 32, 1 << 63, u64::MAX];
+
 pub struct Held {
     words: Words,
     /// What the value claims. The port holds none and no rule looks at it.
@@ -130,7 +133,7 @@ impl Ported {
         words[at::NUMBER] = handshake.segment.number;
         words[at::PLACE] = handshake.segment.place;
         words[at::ENDED] = match handshake.ended {
-            true => self.random.pick(&[1, 2, 1 << 32, 1 << 63, u64::MAX]),
+            true => self.random.pick(&ENDED),
             false => 0,
         };
         words[at::APPLIED] = handshake.applied;
@@ -204,6 +207,9 @@ impl Ported {
 
     fn step_message(&mut self, call: &Call, held: &mut Held, message: &Message) -> Option<u64> {
         let words = self.message_form(Export::Step, message);
+        if held.value().ended {
+            held.words[at::ENDED] = self.random.pick(&ENDED);
+        }
         if self.random.chance(SHORT_PERCENT) {
             self.step_short(call, held, &words)?;
         }
