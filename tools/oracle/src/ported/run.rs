@@ -87,7 +87,7 @@ struct Plan {
     first: u64,
     streams: u64,
     left: u64,
-    planned: u64,
+    agreed: u64,
 }
 
 impl Plan {
@@ -102,12 +102,17 @@ impl Plan {
             return None;
         }
         let seed = self.first.wrapping_add(self.streams);
-        if (self.planned + calls) / NEWS > self.planned / NEWS {
-            eprintln!("{} calls planned, up to seed {seed}", self.planned + calls);
-        }
         (self.streams, self.left) = (self.streams + 1, self.left - calls);
-        self.planned += calls;
         Some((seed, calls))
+    }
+
+    /// Says how far the run is, so that one which is broken off has shown something too.
+    fn agree(&mut self, calls: u64) {
+        let before = self.agreed;
+        self.agreed += calls;
+        if self.agreed / NEWS > before / NEWS {
+            eprintln!("{} calls agree so far", self.agreed);
+        }
     }
 }
 
@@ -117,7 +122,7 @@ pub fn run(seed: u64, count: u64, threads: usize) -> Result<(Tally, u64), Box<Di
         first: seed,
         streams: 0,
         left: count,
-        planned: 0,
+        agreed: 0,
     });
     let lock = || plan.lock().unwrap_or_else(PoisonError::into_inner);
     let work = || {
@@ -127,7 +132,10 @@ pub fn run(seed: u64, count: u64, threads: usize) -> Result<(Tally, u64), Box<Di
                 return Ok(tally);
             };
             match compare(seed, calls) {
-                Ok(stream) => tally.add(&stream),
+                Ok(stream) => {
+                    lock().agree(stream.calls);
+                    tally.add(&stream);
+                }
                 Err(difference) => {
                     // Nobody begins another stream.
                     lock().left = 0;
