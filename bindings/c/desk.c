@@ -1,0 +1,336 @@
+/*
+ * The header at work: 01's book E, made, fed and read through include/pinuglaw.h, with every word that a call writes held against the word that 01 gives.
+ * Prints the number of checks and exits 0, or prints each that failed and exits 1.
+ */
+#include "pinuglaw.h"
+
+#include <inttypes.h>
+#include <stdio.h>
+#include <string.h>
+
+enum { MAX_ORDERS = 3, SEGMENTS = 2, JUNK = 77 };
+
+/* Ids of 01's examples; the high word differs from the low one, so that a swap shows. */
+enum { A = 0xA, B = 0xB, C = 0xC, Z = 0xF, ID_HIGH = 9 };
+
+enum { BUY = 0, SELL = 1 };
+
+static const uint8_t PRODUCT[16] = "BTC-USD";
+static unsigned checks, failures;
+
+static void same(int line, const char *what, uint64_t got, uint64_t expected)
+{
+    checks++;
+    if (got != expected) {
+        failures++;
+        fprintf(stderr, "desk.c:%d: %s is %" PRIu64 ", not %" PRIu64 "\n", line, what, got, expected);
+    }
+}
+
+static void same_words(int line, const char *what, const uint64_t *got, const uint64_t *expected, size_t words)
+{
+    for (size_t i = 0; i < words; i++) {
+        char name[64];
+        snprintf(name, sizeof name, "%s[%zu]", what, i);
+        same(line, name, got[i], expected[i]);
+    }
+}
+
+#define SAME(got, expected) same(__LINE__, #got, got, expected)
+/* The words of `got` are those listed, as many as the list has. */
+#define WORDS(got, ...) same_words(__LINE__, #got, got, (const uint64_t[]){__VA_ARGS__}, sizeof((const uint64_t[]){__VA_ARGS__}) / sizeof(uint64_t))
+
+/* ---- Pieces, as 01 has them: integers little-endian, ids in text order. */
+
+struct piece {
+    uint8_t bytes[256];
+    size_t length;
+};
+
+static void put_byte(struct piece *p, uint8_t byte)
+{
+    p->bytes[p->length++] = byte;
+}
+
+static void put_little(struct piece *p, uint64_t value, unsigned bytes)
+{
+    for (unsigned i = 0; i < bytes; i++)
+        put_byte(p, (uint8_t)(value >> (8 * i)));
+}
+
+static void put_big(struct piece *p, uint64_t value)
+{
+    for (unsigned i = 8; i-- > 0;)
+        put_byte(p, (uint8_t)(value >> (8 * i)));
+}
+
+static void put_id(struct piece *p, uint64_t low)
+{
+    put_big(p, ID_HIGH);
+    put_big(p, low);
+}
+
+static struct piece header(uint8_t kind, uint64_t sequence, uint64_t time_us)
+{
+    struct piece p = {.length = 0};
+    put_byte(&p, kind);
+    for (size_t i = 0; i < sizeof PRODUCT; i++)
+        put_byte(&p, PRODUCT[i]);
+    put_little(&p, sequence, 8);
+    put_little(&p, time_us, 8);
+    return p;
+}
+
+static void put_order(struct piece *p, uint64_t id, uint64_t price, uint64_t size)
+{
+    put_id(p, id);
+    put_little(p, price, 8);
+    put_little(p, size, 8);
+}
+
+/* E's snapshot: buy A price 10 size 2, sell B price 12 size 3. */
+static struct piece snapshot_of_e(uint64_t sequence)
+{
+    struct piece p = header(PINUGLAW_KIND_SNAPSHOT, sequence, 0);
+    put_little(&p, 1, 4);
+    put_little(&p, 1, 4);
+    put_order(&p, A, 10, 2);
+    put_order(&p, B, 12, 3);
+    return p;
+}
+
+static struct piece open_piece(uint64_t sequence, uint64_t id, uint64_t price, uint64_t remaining)
+{
+    struct piece p = header(PINUGLAW_KIND_OPEN, sequence, 1000 * sequence);
+    put_id(&p, id);
+    put_byte(&p, BUY);
+    put_little(&p, price, 8);
+    put_little(&p, remaining, 8);
+    return p;
+}
+
+static struct piece match_piece(uint64_t sequence, uint64_t maker, uint64_t size)
+{
+    struct piece p = header(PINUGLAW_KIND_MATCH, sequence, 1000 * sequence);
+    put_id(&p, maker);
+    put_id(&p, Z);
+    put_byte(&p, BUY);
+    put_little(&p, 10, 8);
+    put_little(&p, size, 8);
+    return p;
+}
+
+/* ---- A book as a host keeps it. */
+
+struct book {
+    uint64_t state[PINUGLAW_STATE_WORDS];
+    uint64_t rows[MAX_ORDERS * PINUGLAW_ROW_WORDS];
+    uint64_t segments[SEGMENTS * PINUGLAW_SEGMENT_WORDS];
+    uint64_t scratch[MAX_ORDERS];
+};
+
+#define LENT(words) words, sizeof(words) / sizeof(words)[0]
+
+static uint64_t big_word(const uint8_t *bytes)
+{
+    uint64_t word = 0;
+    for (int i = 0; i < 8; i++)
+        word = word << 8 | bytes[i];
+    return word;
+}
+
+static struct book new_book(void)
+{
+    struct book b;
+    memset(&b, 0, sizeof b);
+    b.state[PINUGLAW_STATE_PRODUCT_HIGH] = big_word(PRODUCT);
+    b.state[PINUGLAW_STATE_PRODUCT_LOW] = big_word(PRODUCT + 8);
+    b.state[PINUGLAW_STATE_MAX_ORDERS] = MAX_ORDERS;
+    b.state[PINUGLAW_STATE_MAX_LEVELS] = MAX_ORDERS;
+    b.state[PINUGLAW_STATE_NUMBER] = 41;
+    for (size_t i = 0; i < MAX_ORDERS; i++)
+        b.scratch[i] = JUNK;
+    return b;
+}
+
+static uint64_t take_snapshot(struct book *b, const struct piece *p)
+{
+    return pinuglaw_bootstrap(LENT(b->state), LENT(b->rows), LENT(b->segments), p->bytes, p->length);
+}
+
+static uint64_t apply(struct book *b, struct piece p)
+{
+    uint64_t message[PINUGLAW_MESSAGE_WORDS];
+    SAME(pinuglaw_read_message(p.bytes, p.length, LENT(message)), PINUGLAW_OK);
+    return pinuglaw_apply(LENT(b->state), LENT(b->rows), LENT(b->segments), LENT(message));
+}
+
+static uint64_t step(struct book *b, uint64_t handshake[PINUGLAW_HANDSHAKE_WORDS], struct piece p)
+{
+    uint64_t message[PINUGLAW_MESSAGE_WORDS];
+    SAME(pinuglaw_read_message(p.bytes, p.length, LENT(message)), PINUGLAW_OK);
+    return pinuglaw_step(LENT(b->state), LENT(b->rows), LENT(b->segments), handshake, PINUGLAW_HANDSHAKE_WORDS, LENT(message));
+}
+
+/* ---- The checks. */
+
+static void check_reader(void)
+{
+    struct piece snapshot = snapshot_of_e(100);
+    SAME(snapshot.length, 41 + 2 * 32);
+    uint64_t head[PINUGLAW_SNAPSHOT_WORDS];
+    SAME(pinuglaw_read_snapshot(snapshot.bytes, snapshot.length, LENT(head)), PINUGLAW_OK);
+    WORDS(head, big_word(PRODUCT), big_word(PRODUCT + 8), 100, 1, 1);
+    uint64_t order[PINUGLAW_ORDER_WORDS];
+    SAME(pinuglaw_snapshot_order(snapshot.bytes, snapshot.length, 1, LENT(order)), PINUGLAW_OK);
+    WORDS(order, ID_HIGH, B, 12, 3);
+
+    uint64_t message[PINUGLAW_MESSAGE_WORDS];
+    struct piece match = match_piece(102, A, 2);
+    SAME(pinuglaw_read_message(match.bytes, match.length, LENT(message)), PINUGLAW_OK);
+    SAME(message[PINUGLAW_MESSAGE_KIND], PINUGLAW_KIND_MATCH);
+    SAME(message[PINUGLAW_MESSAGE_SEQUENCE], 102);
+    SAME(message[PINUGLAW_MESSAGE_TIME_US], 102000);
+    SAME(message[PINUGLAW_MESSAGE_ID_LOW], A);
+    SAME(message[PINUGLAW_MATCH_TAKER_HIGH], ID_HIGH);
+    SAME(message[PINUGLAW_MATCH_TAKER_LOW], Z);
+    SAME(message[PINUGLAW_MATCH_SIDE], BUY);
+    SAME(message[PINUGLAW_MATCH_PRICE], 10);
+    SAME(message[PINUGLAW_MATCH_SIZE], 2);
+
+    SAME(pinuglaw_read_message(match.bytes, match.length - 1, LENT(message)), PINUGLAW_NOT_A_PIECE);
+    struct piece wide = open_piece(101, C, 1000000000000001, 5);
+    SAME(pinuglaw_read_message(wide.bytes, wide.length, LENT(message)), PINUGLAW_AMOUNT_OUT_OF_RANGE);
+    SAME(pinuglaw_read_message(match.bytes, match.length, message, 20), PINUGLAW_OUTPUT_TOO_SMALL);
+}
+
+static void check_bootstrap(struct book *b)
+{
+    uint64_t last[1] = {JUNK};
+    SAME(pinuglaw_last_sequence(LENT(b->state), LENT(b->rows), LENT(last)), PINUGLAW_NOT_BOOTSTRAPPED);
+    SAME(last[0], JUNK);
+    struct piece snapshot = snapshot_of_e(100);
+    SAME(take_snapshot(b, &snapshot), PINUGLAW_OK);
+    WORDS(b->state, big_word(PRODUCT), big_word(PRODUCT + 8), 0, 3, 3, 41, PINUGLAW_STATUS_VALID, 100, 0, 0, 0, 0, 0, 2, 1, 0, 0, 0, 0, 0, 0, 0, 0, 0, 0, 0, 0);
+    WORDS(b->rows, ID_HIGH, A, 10, 2, 0, 100, 0, 0, ID_HIGH, B, 12, 3, 1, 100, 0, 0, 0, 0, 0, 0, 0, 0, 0, 0);
+    WORDS(b->segments, 100, 100, 0, 0, 0, 0, 0, 0, 0, 0, 0, 0, 0, 0, 0, 0);
+    SAME(pinuglaw_rows_broken(LENT(b->rows), 2, 3), 0);
+    SAME(pinuglaw_rows_broken(LENT(b->rows), 3, 3), 1);
+}
+
+/* A buffer that the line sent again: its old part is dropped, the rest is applied. */
+static void check_handshake(struct book *b)
+{
+    uint64_t handshake[PINUGLAW_HANDSHAKE_WORDS];
+    SAME(pinuglaw_handshake(LENT(b->state), handshake, 3), PINUGLAW_OUTPUT_TOO_SMALL);
+    SAME(pinuglaw_handshake(LENT(b->state), LENT(handshake)), PINUGLAW_OK);
+    WORDS(handshake, 41, 0, 0, 0);
+    SAME(step(b, handshake, match_piece(100, A, 2)), PINUGLAW_DROPPED);
+    WORDS(handshake, 41, 0, 0, 0);
+    SAME(b->state[PINUGLAW_STATE_HANDSHAKE_DROPPED], 1);
+    SAME(step(b, handshake, open_piece(101, C, 10, 5)), PINUGLAW_BOOK_CHANGED);
+    WORDS(handshake, 41, 0, 0, 1);
+    WORDS(b->rows, ID_HIGH, A, 10, 2, 0, 100, 0, 0, ID_HIGH, B, 12, 3, 1, 100, 0, 0, ID_HIGH, C, 10, 5, 2, 101, 0, 0);
+    WORDS(b->segments, 100, 101, 0, 0, 0, 0, 101000, 101000);
+    handshake[PINUGLAW_HANDSHAKE_PLACE] = 1;
+    SAME(step(b, handshake, match_piece(102, A, 2)), PINUGLAW_HANDSHAKE_OVER);
+    WORDS(handshake, 41, 1, 0, 1);
+}
+
+static void check_level_reads(struct book *b)
+{
+    uint64_t out[MAX_ORDERS * PINUGLAW_QUEUE_WORDS], count[1] = {JUNK};
+    memset(out, 0, sizeof out);
+    SAME(pinuglaw_level_queue(LENT(b->state), LENT(b->rows), LENT(b->scratch), BUY, 10, LENT(out), LENT(count)), PINUGLAW_OK);
+    SAME(count[0], 2);
+    WORDS(out, ID_HIGH, A, 2, 0, 0, ID_HIGH, C, 5, 1, 101, 0, 0, 0, 0, 0);
+    WORDS(b->scratch, 0, 0, 0);
+    SAME(pinuglaw_level_queue(LENT(b->state), LENT(b->rows), LENT(b->scratch), BUY, 11, LENT(out), LENT(count)), PINUGLAW_OK);
+    SAME(count[0], 0);
+    SAME(pinuglaw_level_queue(LENT(b->state), LENT(b->rows), LENT(b->scratch), BUY, 10, out, 9, LENT(count)), PINUGLAW_OUTPUT_TOO_SMALL);
+    SAME(pinuglaw_level_queue(LENT(b->state), LENT(b->rows), b->scratch, 2, BUY, 10, LENT(out), LENT(count)), PINUGLAW_MEMORY_TOO_SHORT);
+    SAME(pinuglaw_priority_profile(LENT(b->state), LENT(b->rows), LENT(b->scratch), BUY, LENT(out), LENT(count)), PINUGLAW_OK);
+    SAME(count[0], 1);
+    WORDS(out, 10, 7, 2);
+    SAME(pinuglaw_l2(LENT(b->state), LENT(b->rows), LENT(b->scratch), SELL, LENT(out), LENT(count)), PINUGLAW_OK);
+    SAME(count[0], 1);
+    WORDS(out, 12, 3);
+    SAME(pinuglaw_stale_l2(LENT(b->state), LENT(b->rows), LENT(b->scratch), SELL, LENT(out), LENT(count)), PINUGLAW_NOT_STALE);
+}
+
+static void check_small_reads(struct book *b)
+{
+    uint64_t last[1], best[PINUGLAW_BEST_WORDS];
+    SAME(pinuglaw_last_sequence(LENT(b->state), LENT(b->rows), LENT(last)), PINUGLAW_OK);
+    SAME(last[0], 101);
+    SAME(pinuglaw_best(LENT(b->state), LENT(b->rows), LENT(best)), PINUGLAW_OK);
+    WORDS(best, 1, 10, 1, 12);
+    SAME(pinuglaw_audit(LENT(b->state), LENT(b->rows)), PINUGLAW_OK);
+    SAME(pinuglaw_audit(LENT(b->state), b->rows, 23), PINUGLAW_MEMORY_TOO_SHORT);
+}
+
+/* 01's C1 and C2, and a hypothetical order behind both. */
+static void check_estimates(struct book *b)
+{
+    uint64_t own[PINUGLAW_ESTIMATE_WORDS], behind[PINUGLAW_ESTIMATE_WORDS], ahead[MAX_ORDERS * PINUGLAW_AHEAD_WORDS];
+    uint64_t volume[PINUGLAW_VOLUME_WORDS];
+    memset(ahead, 0, sizeof ahead);
+    SAME(pinuglaw_queue_estimate_own(LENT(b->state), LENT(b->rows), ID_HIGH, C, LENT(own)), PINUGLAW_OK);
+    WORDS(own, BUY, 10, 41, 0, 1, ID_HIGH, C, 101);
+    SAME(pinuglaw_queue_estimate(LENT(b->state), LENT(b->rows), BUY, 10, LENT(ahead), LENT(behind)), PINUGLAW_OK);
+    WORDS(behind, BUY, 10, 41, 0, 0, 2, 101, 0);
+    WORDS(ahead, ID_HIGH, A, 100, ID_HIGH, C, 101, 0, 0, 0);
+    SAME(pinuglaw_volume_ahead(LENT(b->state), LENT(b->rows), LENT(own), ahead, 0, LENT(volume)), PINUGLAW_OK);
+    WORDS(volume, 101, 2, 2, 0, 1, 1, 0);
+    SAME(apply(b, match_piece(102, A, 2)), PINUGLAW_BOOK_CHANGED);
+    SAME(pinuglaw_volume_ahead(LENT(b->state), LENT(b->rows), LENT(own), ahead, 0, LENT(volume)), PINUGLAW_OK);
+    WORDS(volume, 102, 0, 0, 0, 0, 1, 0);
+    SAME(pinuglaw_volume_ahead(LENT(b->state), LENT(b->rows), LENT(behind), LENT(ahead), LENT(volume)), PINUGLAW_OK);
+    WORDS(volume, 102, 5, 0, 5, 1, 0, 0);
+    SAME(pinuglaw_volume_ahead(LENT(b->state), LENT(b->rows), LENT(behind), ahead, 5, LENT(volume)), PINUGLAW_AHEAD_LIST_UNUSABLE);
+    SAME(pinuglaw_queue_estimate_own(LENT(b->state), LENT(b->rows), ID_HIGH, B, LENT(own)), PINUGLAW_PRIORITY_UNKNOWN);
+    SAME(pinuglaw_queue_estimate_own(LENT(b->state), LENT(b->rows), ID_HIGH, Z, LENT(own)), PINUGLAW_NOT_RESTING);
+}
+
+/* The line sends the match again: no figure until the next snapshot, which an old estimate does not outlive. */
+static void check_resent(struct book *b)
+{
+    uint64_t own[PINUGLAW_ESTIMATE_WORDS], volume[PINUGLAW_VOLUME_WORDS], out[PINUGLAW_L2_WORDS], count[1];
+    SAME(pinuglaw_queue_estimate_own(LENT(b->state), LENT(b->rows), ID_HIGH, C, LENT(own)), PINUGLAW_OK);
+    SAME(apply(b, match_piece(102, A, 2)), PINUGLAW_INVALIDATED);
+    WORDS(b->state, big_word(PRODUCT), big_word(PRODUCT + 8), 0, 3, 3, 41, PINUGLAW_STATUS_INVALID, 102, 102, PINUGLAW_OUT_OF_ORDER_OR_DUPLICATE, 102, 102, 0, 2, 1, 0,
+          1, 0, 1, 0, 0, 0, 0, 1, 0, 0, 0);
+    WORDS(b->segments, 100, 102, PINUGLAW_OUT_OF_ORDER_OR_DUPLICATE, 102, 102, 0, 101000, 102000, 0, 0, 0, 0, 0, 0, 0, 0);
+    SAME(pinuglaw_volume_ahead(LENT(b->state), LENT(b->rows), LENT(own), own, 0, LENT(volume)), PINUGLAW_VIEW_INVALIDATED);
+    SAME(pinuglaw_stale_l2(LENT(b->state), LENT(b->rows), LENT(b->scratch), BUY, LENT(out), LENT(count)), PINUGLAW_OK);
+    SAME(count[0], 1);
+    WORDS(out, 10, 5);
+    SAME(apply(b, match_piece(103, A, 2)), PINUGLAW_AWAITING_SNAPSHOT);
+    SAME(b->state[PINUGLAW_STATE_SKIPPED_WHILE_INVALID], 1);
+
+    struct piece snapshot = snapshot_of_e(200);
+    SAME(take_snapshot(b, &snapshot), PINUGLAW_OK);
+    SAME(pinuglaw_volume_ahead(LENT(b->state), LENT(b->rows), LENT(own), own, 0, LENT(volume)), PINUGLAW_STALE_ESTIMATE);
+    SAME(take_snapshot(b, &snapshot), PINUGLAW_SEGMENT_LIST_FULL);
+    uint64_t handshake[PINUGLAW_HANDSHAKE_WORDS];
+    SAME(pinuglaw_handshake(LENT(b->state), LENT(handshake)), PINUGLAW_OK);
+    WORDS(handshake, 41, 1, 0, 0);
+    SAME(step(b, handshake, match_piece(202, A, 1)), PINUGLAW_INVALIDATED);
+    WORDS(handshake, 41, 1, 1, 0);
+    SAME(b->state[PINUGLAW_STATE_REASON], PINUGLAW_GAP);
+    SAME(step(b, handshake, match_piece(201, A, 1)), PINUGLAW_HANDSHAKE_OVER);
+}
+
+int main(void)
+{
+    struct book b = new_book();
+    check_reader();
+    check_bootstrap(&b);
+    check_handshake(&b);
+    check_small_reads(&b);
+    check_level_reads(&b);
+    check_estimates(&b);
+    check_resent(&b);
+    printf("C: %u checks, %u failed\n", checks, failures);
+    return failures != 0;
+}
