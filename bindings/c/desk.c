@@ -11,7 +11,7 @@
 enum { MAX_ORDERS = 3, SEGMENTS = 2, JUNK = 77 };
 
 /* Ids of 01's examples; the high word differs from the low one, so that a swap shows. */
-enum { A = 0xA, B = 0xB, C = 0xC, Z = 0xF, ID_HIGH = 9 };
+enum { A = 0xA, B = 0xB, C = 0xC, D = 0xD, Z = 0xF, ID_HIGH = 8 };
 
 enum { BUY = 0, SELL = 1 };
 
@@ -39,6 +39,9 @@ static void same_words(int line, const char *what, const uint64_t *got, const ui
 #define SAME(got, expected) same(__LINE__, #got, got, expected)
 /* The words of `got` are those listed, as many as the list has. */
 #define WORDS(got, ...) same_words(__LINE__, #got, got, (const uint64_t[]){__VA_ARGS__}, sizeof((const uint64_t[]){__VA_ARGS__}) / sizeof(uint64_t))
+
+/* The same for a message, whose words that are not listed are 0. */
+#define MESSAGE_WORDS(got, ...) same_words(__LINE__, #got, got, (const uint64_t[PINUGLAW_MESSAGE_WORDS]){__VA_ARGS__}, PINUGLAW_MESSAGE_WORDS)
 
 /* ---- Pieces, as 01 has them: integers little-endian, ids in text order. */
 
@@ -176,32 +179,70 @@ static uint64_t step(struct book *b, uint64_t handshake[PINUGLAW_HANDSHAKE_WORDS
 
 static void check_reader(void)
 {
-    struct piece snapshot = snapshot_of_e(100);
-    SAME(snapshot.length, 41 + 2 * 32);
+    struct piece snapshot = header(PINUGLAW_KIND_SNAPSHOT, 100, 0);
+    put_little(&snapshot, 2, 4);
+    put_little(&snapshot, 1, 4);
+    put_order(&snapshot, A, 10, 2);
+    put_order(&snapshot, D, 9, 4);
+    put_order(&snapshot, B, 12, 3);
     uint64_t head[PINUGLAW_SNAPSHOT_WORDS];
     SAME(pinuglaw_read_snapshot(snapshot.bytes, snapshot.length, LENT(head)), PINUGLAW_OK);
-    WORDS(head, big_word(PRODUCT), big_word(PRODUCT + 8), 100, 1, 1);
+    WORDS(head, [PINUGLAW_SNAPSHOT_PRODUCT_HIGH] = big_word(PRODUCT), [PINUGLAW_SNAPSHOT_PRODUCT_LOW] = big_word(PRODUCT + 8),
+          [PINUGLAW_SNAPSHOT_SEQUENCE] = 100, [PINUGLAW_SNAPSHOT_BIDS] = 2, [PINUGLAW_SNAPSHOT_ASKS] = 1);
     uint64_t order[PINUGLAW_ORDER_WORDS];
     SAME(pinuglaw_snapshot_order(snapshot.bytes, snapshot.length, 1, LENT(order)), PINUGLAW_OK);
-    WORDS(order, ID_HIGH, B, 12, 3);
+    WORDS(order, [PINUGLAW_ORDER_ID_HIGH] = ID_HIGH, [PINUGLAW_ORDER_ID_LOW] = D, [PINUGLAW_ORDER_PRICE] = 9, [PINUGLAW_ORDER_SIZE] = 4);
 
     uint64_t message[PINUGLAW_MESSAGE_WORDS];
     struct piece match = match_piece(102, A, 2);
-    SAME(pinuglaw_read_message(match.bytes, match.length, LENT(message)), PINUGLAW_OK);
-    SAME(message[PINUGLAW_MESSAGE_KIND], PINUGLAW_KIND_MATCH);
-    SAME(message[PINUGLAW_MESSAGE_SEQUENCE], 102);
-    SAME(message[PINUGLAW_MESSAGE_TIME_US], 102000);
-    SAME(message[PINUGLAW_MESSAGE_ID_LOW], A);
-    SAME(message[PINUGLAW_MATCH_TAKER_HIGH], ID_HIGH);
-    SAME(message[PINUGLAW_MATCH_TAKER_LOW], Z);
-    SAME(message[PINUGLAW_MATCH_SIDE], BUY);
-    SAME(message[PINUGLAW_MATCH_PRICE], 10);
-    SAME(message[PINUGLAW_MATCH_SIZE], 2);
-
     SAME(pinuglaw_read_message(match.bytes, match.length - 1, LENT(message)), PINUGLAW_NOT_A_PIECE);
     struct piece wide = open_piece(101, C, 1000000000000001, 5);
     SAME(pinuglaw_read_message(wide.bytes, wide.length, LENT(message)), PINUGLAW_AMOUNT_OUT_OF_RANGE);
     SAME(pinuglaw_read_message(match.bytes, match.length, message, 20), PINUGLAW_OUTPUT_TOO_SMALL);
+}
+
+#define MESSAGE(kind, sequence) \
+    [PINUGLAW_MESSAGE_KIND] = kind, [PINUGLAW_MESSAGE_PRODUCT_HIGH] = big_word(PRODUCT), [PINUGLAW_MESSAGE_PRODUCT_LOW] = big_word(PRODUCT + 8), \
+    [PINUGLAW_MESSAGE_SEQUENCE] = sequence, [PINUGLAW_MESSAGE_TIME_US] = 1000 * sequence, [PINUGLAW_MESSAGE_ID_HIGH] = ID_HIGH
+
+static void read_into(uint64_t message[PINUGLAW_MESSAGE_WORDS], struct piece p)
+{
+    SAME(pinuglaw_read_message(p.bytes, p.length, message, PINUGLAW_MESSAGE_WORDS), PINUGLAW_OK);
+}
+
+/* The places of an event's fields. */
+static void check_fields(void)
+{
+    uint64_t message[PINUGLAW_MESSAGE_WORDS];
+    read_into(message, open_piece(101, C, 10, 5));
+    MESSAGE_WORDS(message, MESSAGE(PINUGLAW_KIND_OPEN, 101), [PINUGLAW_MESSAGE_ID_LOW] = C, [PINUGLAW_OPEN_PRICE] = 10, [PINUGLAW_OPEN_REMAINING] = 5);
+    read_into(message, match_piece(102, A, 2));
+    MESSAGE_WORDS(message, MESSAGE(PINUGLAW_KIND_MATCH, 102), [PINUGLAW_MESSAGE_ID_LOW] = A, [PINUGLAW_MATCH_TAKER_HIGH] = ID_HIGH, [PINUGLAW_MATCH_TAKER_LOW] = Z,
+          [PINUGLAW_MATCH_SIDE] = BUY, [PINUGLAW_MATCH_PRICE] = 10, [PINUGLAW_MATCH_SIZE] = 2);
+
+    struct piece done = header(PINUGLAW_KIND_DONE, 103, 103000);
+    put_id(&done, A);
+    put_byte(&done, SELL);
+    put_little(&done, 10, 8);
+    put_byte(&done, 1);
+    put_byte(&done, 3);
+    put_little(&done, 2, 8);
+    read_into(message, done);
+    MESSAGE_WORDS(message, MESSAGE(PINUGLAW_KIND_DONE, 103), [PINUGLAW_MESSAGE_ID_LOW] = A, [PINUGLAW_MESSAGE_SIDE] = SELL, [PINUGLAW_DONE_PRICE] = 1,
+          [PINUGLAW_DONE_PRICE + 1] = 10, [PINUGLAW_DONE_REASON] = 1, [PINUGLAW_DONE_REMAINING] = 1, [PINUGLAW_DONE_REMAINING + 1] = 2);
+
+    struct piece change = header(PINUGLAW_KIND_CHANGE, 104, 104000);
+    put_id(&change, A);
+    put_byte(&change, SELL);
+    put_byte(&change, 1);
+    put_byte(&change, 63);
+    for (uint64_t amount = 21; amount < 27; amount++)
+        put_little(&change, amount, 8);
+    read_into(message, change);
+    MESSAGE_WORDS(message, MESSAGE(PINUGLAW_KIND_CHANGE, 104), [PINUGLAW_MESSAGE_ID_LOW] = A, [PINUGLAW_MESSAGE_SIDE] = SELL, [PINUGLAW_CHANGE_REASON] = 1,
+          [PINUGLAW_CHANGE_PRICE] = 1, [PINUGLAW_CHANGE_PRICE + 1] = 21, [PINUGLAW_CHANGE_OLD_SIZE] = 1, [PINUGLAW_CHANGE_OLD_SIZE + 1] = 22,
+          [PINUGLAW_CHANGE_NEW_SIZE] = 1, [PINUGLAW_CHANGE_NEW_SIZE + 1] = 23, [PINUGLAW_CHANGE_OLD_PRICE] = 1, [PINUGLAW_CHANGE_OLD_PRICE + 1] = 24,
+          [PINUGLAW_CHANGE_NEW_PRICE] = 1, [PINUGLAW_CHANGE_NEW_PRICE + 1] = 25, [PINUGLAW_CHANGE_NEW_FUNDS] = 1, [PINUGLAW_CHANGE_NEW_FUNDS + 1] = 26);
 }
 
 static void check_bootstrap(struct book *b)
@@ -232,6 +273,9 @@ static void check_handshake(struct book *b)
     WORDS(handshake, 41, 0, 0, 1);
     WORDS(b->rows, ID_HIGH, A, 10, 2, 0, 100, 0, 0, ID_HIGH, B, 12, 3, 1, 100, 0, 0, ID_HIGH, C, 10, 5, 2, 101, 0, 0);
     WORDS(b->segments, 100, 101, 0, 0, 0, 0, 101000, 101000);
+    const uint64_t *c = b->rows + 2 * PINUGLAW_ROW_WORDS;
+    WORDS(c, [PINUGLAW_ROW_ID_HIGH] = ID_HIGH, [PINUGLAW_ROW_ID_LOW] = C, [PINUGLAW_ROW_PRICE] = 10, [PINUGLAW_ROW_REMAINING] = 5, [PINUGLAW_ROW_KIND] = 2,
+          [PINUGLAW_ROW_ENTERED_AT] = 101, [PINUGLAW_ROW_DECREASED] = 0, [PINUGLAW_ROW_DECREASED_AT] = 0);
     handshake[PINUGLAW_HANDSHAKE_PLACE] = 1;
     SAME(step(b, handshake, match_piece(102, A, 2)), PINUGLAW_HANDSHAKE_OVER);
     WORDS(handshake, 41, 1, 0, 1);
@@ -244,6 +288,9 @@ static void check_level_reads(struct book *b)
     SAME(pinuglaw_level_queue(LENT(b->state), LENT(b->rows), LENT(b->scratch), BUY, 10, LENT(out), LENT(count)), PINUGLAW_OK);
     SAME(count[0], 2);
     WORDS(out, ID_HIGH, A, 2, 0, 0, ID_HIGH, C, 5, 1, 101, 0, 0, 0, 0, 0);
+    const uint64_t *c = out + PINUGLAW_QUEUE_WORDS;
+    WORDS(c, [PINUGLAW_QUEUE_ID_HIGH] = ID_HIGH, [PINUGLAW_QUEUE_ID_LOW] = C, [PINUGLAW_QUEUE_REMAINING] = 5, [PINUGLAW_QUEUE_OBSERVED] = 1,
+          [PINUGLAW_QUEUE_ENTERED_AT] = 101);
     WORDS(b->scratch, 0, 0, 0);
     SAME(pinuglaw_level_queue(LENT(b->state), LENT(b->rows), LENT(b->scratch), BUY, 11, LENT(out), LENT(count)), PINUGLAW_OK);
     SAME(count[0], 0);
@@ -251,10 +298,11 @@ static void check_level_reads(struct book *b)
     SAME(pinuglaw_level_queue(LENT(b->state), LENT(b->rows), b->scratch, 2, BUY, 10, LENT(out), LENT(count)), PINUGLAW_MEMORY_TOO_SHORT);
     SAME(pinuglaw_priority_profile(LENT(b->state), LENT(b->rows), LENT(b->scratch), BUY, LENT(out), LENT(count)), PINUGLAW_OK);
     SAME(count[0], 1);
-    WORDS(out, 10, 7, 2);
+    WORDS(out, [PINUGLAW_PROFILE_PRICE] = 10, [PINUGLAW_PROFILE_TOTAL] = 7, [PINUGLAW_PROFILE_UNKNOWN] = 2);
     SAME(pinuglaw_l2(LENT(b->state), LENT(b->rows), LENT(b->scratch), SELL, LENT(out), LENT(count)), PINUGLAW_OK);
     SAME(count[0], 1);
-    WORDS(out, 12, 3);
+    /* The third word is the profile's: an entry has two. */
+    WORDS(out, 12, 3, 2);
     SAME(pinuglaw_stale_l2(LENT(b->state), LENT(b->rows), LENT(b->scratch), SELL, LENT(out), LENT(count)), PINUGLAW_NOT_STALE);
 }
 
@@ -264,10 +312,14 @@ static void check_small_reads(struct book *b)
     SAME(pinuglaw_last_sequence(LENT(b->state), LENT(b->rows), LENT(last)), PINUGLAW_OK);
     SAME(last[0], 101);
     SAME(pinuglaw_best(LENT(b->state), LENT(b->rows), LENT(best)), PINUGLAW_OK);
-    WORDS(best, 1, 10, 1, 12);
+    WORDS(best, [PINUGLAW_BEST_HAS_BID] = 1, [PINUGLAW_BEST_BID] = 10, [PINUGLAW_BEST_HAS_ASK] = 1, [PINUGLAW_BEST_ASK] = 12);
     SAME(pinuglaw_audit(LENT(b->state), LENT(b->rows)), PINUGLAW_OK);
     SAME(pinuglaw_audit(LENT(b->state), b->rows, 23), PINUGLAW_MEMORY_TOO_SHORT);
 }
+
+#define VOLUME(at, total, snapshot, observed, orders) \
+    [PINUGLAW_VOLUME_AT_SEQ] = at, [PINUGLAW_VOLUME_TOTAL] = total, [PINUGLAW_VOLUME_FROM_SNAPSHOT] = snapshot, [PINUGLAW_VOLUME_OBSERVED] = observed, \
+    [PINUGLAW_VOLUME_ORDERS] = orders
 
 /* 01's C1 and C2, and a hypothetical order behind both. */
 static void check_estimates(struct book *b)
@@ -276,17 +328,21 @@ static void check_estimates(struct book *b)
     uint64_t volume[PINUGLAW_VOLUME_WORDS];
     memset(ahead, 0, sizeof ahead);
     SAME(pinuglaw_queue_estimate_own(LENT(b->state), LENT(b->rows), ID_HIGH, C, LENT(own)), PINUGLAW_OK);
-    WORDS(own, BUY, 10, 41, 0, 1, ID_HIGH, C, 101);
+    WORDS(own, [PINUGLAW_ESTIMATE_SIDE] = BUY, [PINUGLAW_ESTIMATE_PRICE] = 10, [PINUGLAW_ESTIMATE_NUMBER] = 41, [PINUGLAW_ESTIMATE_PLACE] = 0,
+          [PINUGLAW_ESTIMATE_OWN] = 1, [PINUGLAW_ESTIMATE_ID_HIGH] = ID_HIGH, [PINUGLAW_ESTIMATE_ID_LOW] = C, [PINUGLAW_ESTIMATE_ENTERED_AT] = 101);
     SAME(pinuglaw_queue_estimate(LENT(b->state), LENT(b->rows), BUY, 10, LENT(ahead), LENT(behind)), PINUGLAW_OK);
     WORDS(behind, BUY, 10, 41, 0, 0, 2, 101, 0);
+    SAME(behind[PINUGLAW_ESTIMATE_ORDERS], 2);
+    SAME(behind[PINUGLAW_ESTIMATE_CREATED_AT], 101);
     WORDS(ahead, ID_HIGH, A, 100, ID_HIGH, C, 101, 0, 0, 0);
+    WORDS(ahead, [PINUGLAW_AHEAD_ID_HIGH] = ID_HIGH, [PINUGLAW_AHEAD_ID_LOW] = A, [PINUGLAW_AHEAD_ENTERED_AT] = 100);
     SAME(pinuglaw_volume_ahead(LENT(b->state), LENT(b->rows), LENT(own), ahead, 0, LENT(volume)), PINUGLAW_OK);
-    WORDS(volume, 101, 2, 2, 0, 1, 1, 0);
+    WORDS(volume, VOLUME(101, 2, 2, 0, 1), [PINUGLAW_VOLUME_ASSUMPTION] = 1, [PINUGLAW_VOLUME_KEEPS_PRIORITY] = 0);
     SAME(apply(b, match_piece(102, A, 2)), PINUGLAW_BOOK_CHANGED);
     SAME(pinuglaw_volume_ahead(LENT(b->state), LENT(b->rows), LENT(own), ahead, 0, LENT(volume)), PINUGLAW_OK);
     WORDS(volume, 102, 0, 0, 0, 0, 1, 0);
     SAME(pinuglaw_volume_ahead(LENT(b->state), LENT(b->rows), LENT(behind), LENT(ahead), LENT(volume)), PINUGLAW_OK);
-    WORDS(volume, 102, 5, 0, 5, 1, 0, 0);
+    WORDS(volume, VOLUME(102, 5, 0, 5, 1), [PINUGLAW_VOLUME_ASSUMPTION] = 0, [PINUGLAW_VOLUME_KEEPS_PRIORITY] = 0);
     SAME(pinuglaw_volume_ahead(LENT(b->state), LENT(b->rows), LENT(behind), ahead, 5, LENT(volume)), PINUGLAW_AHEAD_LIST_UNUSABLE);
     SAME(pinuglaw_queue_estimate_own(LENT(b->state), LENT(b->rows), ID_HIGH, B, LENT(own)), PINUGLAW_PRIORITY_UNKNOWN);
     SAME(pinuglaw_queue_estimate_own(LENT(b->state), LENT(b->rows), ID_HIGH, Z, LENT(own)), PINUGLAW_NOT_RESTING);
@@ -325,6 +381,7 @@ int main(void)
 {
     struct book b = new_book();
     check_reader();
+    check_fields();
     check_bootstrap(&b);
     check_handshake(&b);
     check_small_reads(&b);

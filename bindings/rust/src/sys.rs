@@ -1,0 +1,171 @@
+//! The functions that crate `host` exports, and the words they speak in.
+//!
+//! Each function answers 0 or a number of 01's table; `include/pinuglaw.h` says what each takes and writes. The wrappers here lend slices, nothing more: any
+//! words may be handed over, and every call returns.
+
+/// Declares an exported function and a safe wrapper of it. A slice crosses as a pointer and a length.
+macro_rules! exported {
+    ($($(#[$doc:meta])* fn $export:ident as $name:ident($($parameters:tt)*) -> $answer:ty;)*) => {$(
+        exported!(@split $(#[$doc])* $export $name $answer [] [] [] $($parameters)*,);
+    )*};
+    (@split $(#[$doc:meta])* $export:ident $name:ident $answer:ty [$($declared:tt)*] [$($taken:tt)*] [$($given:tt)*]) => {
+        unsafe extern "C" {
+            fn $export($($declared)*) -> $answer;
+        }
+        $(#[$doc])*
+        pub fn $name($($taken)*) -> $answer {
+            // SAFETY: each slice is lent whole for the call and kept by none, and the borrows keep them apart.
+            unsafe { $export($($given)*) }
+        }
+    };
+    (@split $(#[$doc:meta])* $export:ident $name:ident $answer:ty [$($d:tt)*] [$($t:tt)*] [$($g:tt)*] $p:ident: &mut [$of:ty], $($rest:tt)*) => {
+        exported!(@split $(#[$doc])* $export $name $answer
+            [$($d)* $p: *mut $of, _: usize,] [$($t)* $p: &mut [$of],] [$($g)* $p.as_mut_ptr(), $p.len(),] $($rest)*);
+    };
+    (@split $(#[$doc:meta])* $export:ident $name:ident $answer:ty [$($d:tt)*] [$($t:tt)*] [$($g:tt)*] $p:ident: &[$of:ty], $($rest:tt)*) => {
+        exported!(@split $(#[$doc])* $export $name $answer
+            [$($d)* $p: *const $of, _: usize,] [$($t)* $p: &[$of],] [$($g)* $p.as_ptr(), $p.len(),] $($rest)*);
+    };
+    (@split $(#[$doc:meta])* $export:ident $name:ident $answer:ty [$($d:tt)*] [$($t:tt)*] [$($g:tt)*] $p:ident: $of:ty, $($rest:tt)*) => {
+        exported!(@split $(#[$doc])* $export $name $answer [$($d)* $p: $of,] [$($t)* $p: $of,] [$($g)* $p,] $($rest)*);
+    };
+}
+
+exported! {
+    /// Reads a message piece into [`MESSAGE_WORDS`].
+    fn pinuglaw_read_message as read_message(bytes: &[u8], out: &mut [u64]) -> u64;
+    /// Reads a snapshot piece's header into five words: product (two), sequence, number of bids, number of asks.
+    fn pinuglaw_read_snapshot as read_snapshot(bytes: &[u8], out: &mut [u64]) -> u64;
+    /// Reads the order at a place of a snapshot piece into four words: id (two), price, size.
+    fn pinuglaw_snapshot_order as snapshot_order(bytes: &[u8], place: usize, out: &mut [u64]) -> u64;
+    /// Whether `n` rows are no book: number 3's part on the rows.
+    fn pinuglaw_rows_broken as rows_broken(rows: &[u64], n: usize, max_levels: usize) -> bool;
+    /// Applies a message: [`BOOK_CHANGED`], 0 for one without effect, else 01's number.
+    fn pinuglaw_apply as apply(state: &mut [u64], rows: &mut [u64], segments: &mut [u64], message: &[u64]) -> u64;
+    /// Takes a snapshot piece.
+    fn pinuglaw_bootstrap as bootstrap(state: &mut [u64], rows: &mut [u64], segments: &mut [u64], bytes: &[u8]) -> u64;
+    /// Makes a handshake for the segment that the book is in.
+    fn pinuglaw_handshake as handshake(state: &[u64], handshake: &mut [u64]) -> u64;
+    /// Steps a handshake by one message: [`DROPPED`], or as [`apply`].
+    fn pinuglaw_step as step(state: &mut [u64], rows: &mut [u64], segments: &mut [u64], handshake: &mut [u64], message: &[u64]) -> u64;
+    /// The last sequence applied, into one word.
+    fn pinuglaw_last_sequence as last_sequence(state: &[u64], rows: &[u64], out: &mut [u64]) -> u64;
+    /// The best bid and ask, into [`BEST_WORDS`].
+    fn pinuglaw_best as best(state: &[u64], rows: &[u64], out: &mut [u64]) -> u64;
+    /// The audit of a valid book.
+    fn pinuglaw_audit as audit(state: &[u64], rows: &[u64]) -> u64;
+    /// The orders at a side and price, [`QUEUE_WORDS`] each.
+    fn pinuglaw_level_queue as level_queue(state: &[u64], rows: &[u64], scratch: &mut [u64], side: u64, price: u64, out: &mut [u64], count: &mut [u64]) -> u64;
+    /// The levels of a side, [`PROFILE_WORDS`] each.
+    fn pinuglaw_priority_profile as priority_profile(state: &[u64], rows: &[u64], scratch: &mut [u64], side: u64, out: &mut [u64], count: &mut [u64]) -> u64;
+    /// The levels of a side, [`L2_WORDS`] each.
+    fn pinuglaw_l2 as l2(state: &[u64], rows: &[u64], scratch: &mut [u64], side: u64, out: &mut [u64], count: &mut [u64]) -> u64;
+    /// The same of an invalid book; [`NOT_STALE`] of any other.
+    fn pinuglaw_stale_l2 as stale_l2(state: &[u64], rows: &[u64], scratch: &mut [u64], side: u64, out: &mut [u64], count: &mut [u64]) -> u64;
+    /// An estimate for an order created now, and the orders ahead of it, [`AHEAD_WORDS`] each.
+    fn pinuglaw_queue_estimate as queue_estimate(state: &[u64], rows: &[u64], side: u64, price: u64, ahead: &mut [u64], estimate: &mut [u64]) -> u64;
+    /// An estimate for our own order.
+    fn pinuglaw_queue_estimate_own as queue_estimate_own(state: &[u64], rows: &[u64], id_high: u64, id_low: u64, estimate: &mut [u64]) -> u64;
+    /// The volume ahead of an estimate, into [`VOLUME_WORDS`].
+    fn pinuglaw_volume_ahead as volume_ahead(state: &[u64], rows: &[u64], estimate: &[u64], ahead: &[u64], out: &mut [u64]) -> u64;
+}
+
+/// The answer to a message that was applied and changed the book.
+pub const BOOK_CHANGED: u64 = 256;
+/// The answer of [`stale_l2`] on a book that is not invalid.
+pub const NOT_STALE: u64 = 256;
+/// The answer to a step whose message lies at or below the snapshot's sequence.
+pub const DROPPED: u64 = 512;
+
+/// The ceiling of both limits.
+pub const CEILING: usize = 4096;
+
+// The state: 27 words.
+/// The product's first eight bytes, big-endian.
+pub const STATE_PRODUCT_HIGH: usize = 0;
+/// Its last eight.
+pub const STATE_PRODUCT_LOW: usize = 1;
+/// 0 keeps priority, else priority unknown.
+pub const STATE_SIZE_DECREASE: usize = 2;
+/// Most orders.
+pub const STATE_MAX_ORDERS: usize = 3;
+/// Most levels.
+pub const STATE_MAX_LEVELS: usize = 4;
+/// The reconstructor's number.
+pub const STATE_NUMBER: usize = 5;
+/// The last sequence; of an invalid book the last good one.
+pub const STATE_LAST: usize = 7;
+/// The offending sequence of an invalid book.
+pub const STATE_OFFENDING: usize = 8;
+/// The reason of an invalid book, 20 to 44.
+pub const STATE_REASON: usize = 9;
+/// Of 20 the expected sequence, of 21 the last one.
+pub const STATE_FIRST: usize = 10;
+/// Of 20 and 21 the sequence that came.
+pub const STATE_SECOND: usize = 11;
+/// Of 38: 1 funds, 0 no size.
+pub const STATE_DETAIL: usize = 12;
+/// Rows in use.
+pub const STATE_ROWS: usize = 13;
+/// Segment records in use.
+pub const STATE_SEGMENTS: usize = 14;
+/// The first of the twelve counts.
+pub const STATE_RECEIVED: usize = 15;
+/// The words of a state.
+pub const STATE_WORDS: usize = 27;
+
+// A row: 8 words an order, in order of arrival.
+/// The id's first eight bytes, big-endian.
+pub const ROW_ID_HIGH: usize = 0;
+/// Its last eight.
+pub const ROW_ID_LOW: usize = 1;
+/// Price.
+pub const ROW_PRICE: usize = 2;
+/// What remains.
+pub const ROW_REMAINING: usize = 3;
+/// 0 buy, 1 sell of a snapshot; 2 buy, 3 sell of an observed open.
+pub const ROW_KIND: usize = 4;
+/// The sequence it entered at.
+pub const ROW_ENTERED_AT: usize = 5;
+/// 1 where a change made it smaller.
+pub const ROW_DECREASED: usize = 6;
+/// The sequence of that change.
+pub const ROW_DECREASED_AT: usize = 7;
+/// The words of a row.
+pub const ROW_WORDS: usize = 8;
+
+// A segment record: 8 words.
+/// The snapshot's sequence.
+pub const SEGMENT_START_SEQ: usize = 0;
+/// The last sequence applied.
+pub const SEGMENT_LAST_GOOD_SEQ: usize = 1;
+/// 0 open, 1 superseded, else the reason, 20 to 44.
+pub const SEGMENT_END: usize = 2;
+/// `time_us` of the first accepted message.
+pub const SEGMENT_FIRST_US: usize = 6;
+/// `time_us` of the latest.
+pub const SEGMENT_LAST_US: usize = 7;
+/// The words of a record.
+pub const SEGMENT_WORDS: usize = 8;
+
+// Other blocks.
+/// The words of a message.
+pub const MESSAGE_WORDS: usize = 21;
+/// The messages that a handshake has applied.
+pub const HANDSHAKE_APPLIED: usize = 3;
+/// The words of a handshake.
+pub const HANDSHAKE_WORDS: usize = 4;
+/// Of each side whether it has a price, and the price.
+pub const BEST_WORDS: usize = 4;
+/// The words of an order in a level's queue.
+pub const QUEUE_WORDS: usize = 5;
+/// The words of a level in a profile.
+pub const PROFILE_WORDS: usize = 3;
+/// The words of a level.
+pub const L2_WORDS: usize = 2;
+/// The words of an estimate.
+pub const ESTIMATE_WORDS: usize = 8;
+/// The words of an order in an ahead-list.
+pub const AHEAD_WORDS: usize = 3;
+/// The words of a volume ahead.
+pub const VOLUME_WORDS: usize = 7;
