@@ -103,7 +103,7 @@ pub enum Discrepancy {
         /// What.
         what: String,
     },
-    /// The book would exceed [`VenueRules`] capacity.
+    /// The book would exceed [`VenueRules`](super::VenueRules) capacity.
     #[error("capacity exceeded: {what}")]
     CapacityExceeded {
         /// What.
@@ -187,7 +187,7 @@ pub enum SnapshotError {
         /// Best ask.
         ask: Decimal,
     },
-    /// More orders or levels than [`VenueRules`] allows.
+    /// More orders or levels than [`VenueRules`](super::VenueRules) allows.
     #[error("snapshot capacity exceeded: {0}")]
     CapacityExceeded(String),
     /// Checked decimal arithmetic failed: cannot arise here.
@@ -216,7 +216,7 @@ pub enum ApplyError {
     #[error("{0}")]
     Invalidated(Invalidation),
     /// The segment had already ended; the message was skipped. Recovery is
-    /// only through [`BookReconstructor::bootstrap`].
+    /// only through [`BookReconstructor::bootstrap`](super::BookReconstructor::bootstrap).
     #[error("awaiting a snapshot after: {0}")]
     AwaitingSnapshot(Invalidation),
     /// Turned away under a number that the Rust does not know; nothing changed.
