@@ -26,7 +26,7 @@
 //!
 //! What differs from the Rust, beyond what [`l3`] says, is in `docs/DIFFERENCES.md`. [`sys`] has the exported functions themselves.
 
-#![warn(missing_docs)]
+#![deny(missing_docs)]
 
 pub use rust_decimal::Decimal;
 

@@ -212,3 +212,10 @@ fn segments_have_times() {
     );
     assert_eq!(book.segment_times(1), None);
 }
+
+/// As the Rust's is.
+#[test]
+fn a_book_can_be_shared_between_threads() {
+    fn shared<T: Send + Sync>(_: &T) {}
+    shared(&book());
+}

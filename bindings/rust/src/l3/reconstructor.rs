@@ -79,7 +79,8 @@ impl fmt::Debug for BookReconstructor {
 impl BookReconstructor {
     /// A reconstructor for `product_id`, waiting for a snapshot.
     ///
-    /// Any name and any limits will do here, as in the Rust; calls refuse a limit above 4,096 and a name that is no product.
+    /// Any name and any limits will do here, as in the Rust; calls refuse a limit above 4,096 and a name that is no product. The book holds 64 bytes for each
+    /// permitted order from the start, and 64 more for each snapshot it takes.
     #[must_use]
     pub fn new(product_id: impl Into<String>, rules: VenueRules) -> Self {
         let product_id = product_id.into();

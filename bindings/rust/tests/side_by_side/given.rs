@@ -89,6 +89,20 @@ pub mod theirs {
         }
     }
 
+    fn done_reason(reason: ours::DoneReason) -> DoneReason {
+        match reason {
+            ours::DoneReason::Filled => DoneReason::Filled,
+            ours::DoneReason::Canceled => DoneReason::Canceled,
+        }
+    }
+
+    fn change_reason(reason: ours::ChangeReason) -> ChangeReason {
+        match reason {
+            ours::ChangeReason::Stp => ChangeReason::Stp,
+            ours::ChangeReason::ModifyOrder => ChangeReason::ModifyOrder,
+        }
+    }
+
     fn leaving(event: ours::L3Event) -> L3Event {
         match event {
             ours::L3Event::Done {
@@ -101,10 +115,7 @@ pub mod theirs {
                 order_id,
                 side: side(s),
                 price,
-                reason: match reason {
-                    ours::DoneReason::Filled => DoneReason::Filled,
-                    ours::DoneReason::Canceled => DoneReason::Canceled,
-                },
+                reason: done_reason(reason),
                 remaining,
             },
             ours::L3Event::Change {
@@ -120,10 +131,7 @@ pub mod theirs {
             } => L3Event::Change {
                 order_id,
                 side: side(s),
-                reason: match reason {
-                    ours::ChangeReason::Stp => ChangeReason::Stp,
-                    ours::ChangeReason::ModifyOrder => ChangeReason::ModifyOrder,
-                },
+                reason: change_reason(reason),
                 price,
                 old_size,
                 new_size,
