@@ -70,6 +70,74 @@ exported! {
     fn pinuglaw_volume_ahead as volume_ahead(state: &[u64], rows: &[u64], estimate: &[u64], ahead: &[u64], out: &mut [u64]) -> u64;
 }
 
+// The numbers of 01's table that a book with memory of its own can be answered.
+/// An order or level limit above 4,096.
+pub const LIMIT_ABOVE_CEILING: u64 = 1;
+/// No piece.
+pub const NOT_A_PIECE: u64 = 4;
+/// An amount out of range.
+pub const AMOUNT_OUT_OF_RANGE: u64 = 5;
+/// Another product.
+pub const WRONG_PRODUCT: u64 = 10;
+/// A snapshot with an id twice.
+pub const SNAPSHOT_DUPLICATE_ID: u64 = 11;
+/// A snapshot with a price or size that is not positive.
+pub const SNAPSHOT_INVALID_VALUE: u64 = 12;
+/// A crossed snapshot.
+pub const SNAPSHOT_CROSSED: u64 = 13;
+/// A snapshot above a limit.
+pub const SNAPSHOT_CAPACITY_EXCEEDED: u64 = 14;
+/// No snapshot yet.
+pub const NOT_BOOTSTRAPPED: u64 = 15;
+/// This message ended the segment.
+pub const INVALIDATED: u64 = 16;
+/// The segment had ended before.
+pub const AWAITING_SNAPSHOT: u64 = 17;
+/// A read of an invalid book.
+pub const VIEW_INVALIDATED: u64 = 18;
+/// Above the next sequence.
+pub const GAP: u64 = 20;
+/// At or below the last sequence.
+pub const OUT_OF_ORDER_OR_DUPLICATE: u64 = 21;
+/// No next sequence.
+pub const SEQUENCE_OVERFLOW: u64 = 22;
+/// The maker does not rest.
+pub const UNKNOWN_MAKER: u64 = 30;
+/// The taker rests.
+pub const TAKER_RESTING: u64 = 31;
+/// The maker's side or price differs.
+pub const MATCH_MISMATCH: u64 = 32;
+/// A match above what remains.
+pub const MATCH_EXCEEDS_REMAINING: u64 = 33;
+/// An open of an order that rests.
+pub const DUPLICATE_OPEN: u64 = 34;
+/// An order that rests is said to be filled.
+pub const MISSING_MATCH: u64 = 35;
+/// A canceled size differs.
+pub const REMAINING_MISMATCH: u64 = 36;
+/// The side or price of a done differs.
+pub const DONE_MISMATCH: u64 = 37;
+/// A change without a new size.
+pub const MALFORMED_CHANGE: u64 = 38;
+/// The old facts of a change differ.
+pub const CHANGE_MISMATCH: u64 = 39;
+/// A modification that is not followed.
+pub const UNSUPPORTED_MODIFICATION: u64 = 40;
+/// An open would cross.
+pub const CROSSED_AFTER_APPLY: u64 = 41;
+/// A price or size that is not positive.
+pub const INVALID_VALUE: u64 = 42;
+/// An open above a limit.
+pub const CAPACITY_EXCEEDED: u64 = 43;
+/// An unsupported event.
+pub const UNSUPPORTED_INPUT: u64 = 44;
+/// An estimate of another segment.
+pub const STALE_ESTIMATE: u64 = 50;
+/// An order's place is unknown.
+pub const PRIORITY_UNKNOWN: u64 = 51;
+/// The own order does not rest.
+pub const NOT_RESTING: u64 = 52;
+
 /// The answer to a message that was applied and changed the book.
 pub const BOOK_CHANGED: u64 = 256;
 /// The answer of [`stale_l2`] on a book that is not invalid.

@@ -202,10 +202,10 @@ impl BookReconstructor {
         let [high, low] = id_words(id);
         let mut words = [0; ESTIMATE_WORDS];
         match sys::queue_estimate_own(state, rows, high, low, &mut words) {
-            51 => Err(QueueError::PriorityUnknown {
+            sys::PRIORITY_UNKNOWN => Err(QueueError::PriorityUnknown {
                 order_id: order_id.to_string(),
             }),
-            52 => Err(not_resting()),
+            sys::NOT_RESTING => Err(not_resting()),
             number => {
                 self.view(number)?;
                 Ok(QueueEstimate {
@@ -232,11 +232,11 @@ impl BookReconstructor {
         let QueueEstimate { words, ahead, .. } = estimate;
         let mut out = [0; VOLUME_WORDS];
         match sys::volume_ahead(state, rows, words, ahead, &mut out) {
-            50 => Err(QueueError::StaleEstimate),
-            51 => Err(QueueError::PriorityUnknown {
+            sys::STALE_ESTIMATE => Err(QueueError::StaleEstimate),
+            sys::PRIORITY_UNKNOWN => Err(QueueError::PriorityUnknown {
                 order_id: self.of_unknown_place(estimate),
             }),
-            52 => Err(QueueError::NotResting {
+            sys::NOT_RESTING => Err(QueueError::NotResting {
                 order_id: id_text([words[5], words[6]]),
             }),
             number => {

@@ -8,7 +8,7 @@ use super::book::{Resting, resting};
 use super::message::{L3Event, L3Side, L3Snapshot};
 use super::reconstructor::{Discrepancy, Refusal, SnapshotError, VenueRules};
 use super::words::{id_of, id_words};
-use crate::Decimal;
+use crate::{Decimal, sys};
 
 /// The book that a message met.
 pub struct Met<'a> {
@@ -69,25 +69,29 @@ fn named(event: &L3Event) -> &str {
 pub fn discrepancy(number: u64, funds: bool, event: &L3Event, met: &Met) -> Discrepancy {
     let order_id = named(event).to_string();
     match (number, event) {
-        (30, _) => Discrepancy::UnknownMaker { maker_id: order_id },
-        (31, L3Event::Match { taker_id, .. }) => Discrepancy::TakerResting {
+        (sys::UNKNOWN_MAKER, _) => Discrepancy::UnknownMaker { maker_id: order_id },
+        (sys::TAKER_RESTING, L3Event::Match { taker_id, .. }) => Discrepancy::TakerResting {
             taker_id: taker_id.clone(),
         },
-        (32, _) => Discrepancy::MatchMismatch { maker_id: order_id },
-        (33, L3Event::Match { size, .. }) => Discrepancy::MatchExceedsRemaining {
-            remaining: met.remaining(&order_id),
-            maker_id: order_id,
-            size: *size,
-        },
-        (34, _) => Discrepancy::DuplicateOpen { order_id },
-        (41, L3Event::Open { side, price, .. }) => met.crossed(*side, *price),
-        (42, _) => Discrepancy::InvalidValue {
+        (sys::MATCH_MISMATCH, _) => Discrepancy::MatchMismatch { maker_id: order_id },
+        (sys::MATCH_EXCEEDS_REMAINING, L3Event::Match { size, .. }) => {
+            Discrepancy::MatchExceedsRemaining {
+                remaining: met.remaining(&order_id),
+                maker_id: order_id,
+                size: *size,
+            }
+        }
+        (sys::DUPLICATE_OPEN, _) => Discrepancy::DuplicateOpen { order_id },
+        (sys::CROSSED_AFTER_APPLY, L3Event::Open { side, price, .. }) => met.crossed(*side, *price),
+        (sys::INVALID_VALUE, _) => Discrepancy::InvalidValue {
             what: invalid_value(event),
         },
-        (43, _) => Discrepancy::CapacityExceeded {
+        (sys::CAPACITY_EXCEEDED, _) => Discrepancy::CapacityExceeded {
             what: met.capacity(),
         },
-        (44, L3Event::Unsupported { kind }) => Discrepancy::UnsupportedInput { kind: kind.clone() },
+        (sys::UNSUPPORTED_INPUT, L3Event::Unsupported { kind }) => {
+            Discrepancy::UnsupportedInput { kind: kind.clone() }
+        }
         _ => leaving(number, funds, event, met),
     }
 }
@@ -96,17 +100,19 @@ pub fn discrepancy(number: u64, funds: bool, event: &L3Event, met: &Met) -> Disc
 fn leaving(number: u64, funds: bool, event: &L3Event, met: &Met) -> Discrepancy {
     let order_id = named(event).to_string();
     match (number, event) {
-        (35, _) => Discrepancy::MissingMatch {
+        (sys::MISSING_MATCH, _) => Discrepancy::MissingMatch {
             remaining: met.remaining(&order_id),
             order_id,
         },
-        (36, L3Event::Done { remaining, .. }) => Discrepancy::RemainingMismatch {
-            tracked: met.remaining(&order_id),
-            order_id,
-            reported: *remaining,
-        },
-        (37, _) => Discrepancy::DoneMismatch { order_id },
-        (38, _) => Discrepancy::MalformedChange {
+        (sys::REMAINING_MISMATCH, L3Event::Done { remaining, .. }) => {
+            Discrepancy::RemainingMismatch {
+                tracked: met.remaining(&order_id),
+                order_id,
+                reported: *remaining,
+            }
+        }
+        (sys::DONE_MISMATCH, _) => Discrepancy::DoneMismatch { order_id },
+        (sys::MALFORMED_CHANGE, _) => Discrepancy::MalformedChange {
             order_id,
             reason: if funds {
                 "funds change for a resting limit order".to_string()
@@ -114,8 +120,8 @@ fn leaving(number: u64, funds: bool, event: &L3Event, met: &Met) -> Discrepancy 
                 "no new size".to_string()
             },
         },
-        (39, _) => Discrepancy::ChangeMismatch { order_id },
-        (40, _) => Discrepancy::UnsupportedModification { order_id },
+        (sys::CHANGE_MISMATCH, _) => Discrepancy::ChangeMismatch { order_id },
+        (sys::UNSUPPORTED_MODIFICATION, _) => Discrepancy::UnsupportedModification { order_id },
         _ => unreachable!("the library gave the reason {number} for {event:?}"),
     }
 }
@@ -145,16 +151,16 @@ pub fn snapshot_error(
     let mut orders = snapshot.bids.iter().chain(&snapshot.asks);
     let found = "the number says that there is one";
     match number {
-        10 => SnapshotError::WrongProduct {
+        sys::WRONG_PRODUCT => SnapshotError::WrongProduct {
             expected: expected.to_string(),
             got: snapshot.product_id.clone(),
         },
-        11 => {
+        sys::SNAPSHOT_DUPLICATE_ID => {
             let mut ids = HashSet::new();
             let twice = orders.find(|order| !ids.insert(&order.order_id));
             SnapshotError::DuplicateId(twice.expect(found).order_id.clone())
         }
-        12 => {
+        sys::SNAPSHOT_INVALID_VALUE => {
             let zero = Decimal::ZERO;
             let order = orders.find(|order| order.price <= zero || order.size <= zero);
             let order = order.expect(found);
@@ -163,11 +169,13 @@ pub fn snapshot_error(
                 order.order_id, order.price, order.size
             ))
         }
-        13 => SnapshotError::Crossed {
+        sys::SNAPSHOT_CROSSED => SnapshotError::Crossed {
             bid: snapshot.bids.iter().map(|o| o.price).max().expect(found),
             ask: snapshot.asks.iter().map(|o| o.price).min().expect(found),
         },
-        14 => SnapshotError::CapacityExceeded(above(orders.count(), rules)),
+        sys::SNAPSHOT_CAPACITY_EXCEEDED => {
+            SnapshotError::CapacityExceeded(above(orders.count(), rules))
+        }
         _ => SnapshotError::Refused(Refusal::of(number)),
     }
 }

@@ -235,18 +235,18 @@ impl BookReconstructor {
                     _ => Applied::NoBookEffect,
                 })
             }
-            10 => Err(ApplyError::WrongProduct {
+            sys::WRONG_PRODUCT => Err(ApplyError::WrongProduct {
                 expected: self.manifest.product_id.clone(),
                 got: message.product_id.clone(),
             }),
-            15 => Err(ApplyError::NotBootstrapped),
-            16 => {
+            sys::NOT_BOOTSTRAPPED => Err(ApplyError::NotBootstrapped),
+            sys::INVALIDATED => {
                 let why = self.why(message);
                 self.invalidation = Some(why.clone());
                 self.record_segments();
                 Err(ApplyError::Invalidated(why))
             }
-            17 => Err(ApplyError::AwaitingSnapshot(self.in_force())),
+            sys::AWAITING_SNAPSHOT => Err(ApplyError::AwaitingSnapshot(self.in_force())),
             _ => Err(ApplyError::Refused(Refusal::of(number))),
         }
     }
@@ -263,15 +263,15 @@ impl BookReconstructor {
             last_good_seq: self.state[STATE_LAST],
             first_offending_seq: self.state[STATE_OFFENDING],
             kind: match self.state[STATE_REASON] {
-                20 => InvalidationKind::Gap {
+                sys::GAP => InvalidationKind::Gap {
                     expected: first,
                     got: second,
                 },
-                21 => InvalidationKind::OutOfOrderOrDuplicate {
+                sys::OUT_OF_ORDER_OR_DUPLICATE => InvalidationKind::OutOfOrderOrDuplicate {
                     last: first,
                     got: second,
                 },
-                22 => InvalidationKind::SequenceOverflow,
+                sys::SEQUENCE_OVERFLOW => InvalidationKind::SequenceOverflow,
                 number => InvalidationKind::Discrepancy(reasons::discrepancy(
                     number,
                     funds,

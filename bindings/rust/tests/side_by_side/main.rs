@@ -256,7 +256,7 @@ fn every_result_is_the_rusts() {
     let number = |name: &str, default: u64| {
         std::env::var(name).map_or(default, |text| text.parse().expect("a whole number"))
     };
-    let (seed, streams) = (number("SEED", 1), number("STREAMS", 60));
+    let (seed, streams) = (number("SEED", 1), number("STREAMS", 40));
     let (mut met, mut results) = (Met::new(), 0);
     for seed in seed..seed + streams {
         let mut run = Run::new(seed);

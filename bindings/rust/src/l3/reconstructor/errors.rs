@@ -2,7 +2,7 @@
 
 use thiserror::Error;
 
-use crate::Decimal;
+use crate::{Decimal, sys};
 
 /// A message inconsistent with the book: the book can no longer be trusted.
 #[derive(Debug, Clone, PartialEq, Eq, Error)]
@@ -276,9 +276,9 @@ impl Refusal {
     /// If the number cannot arise on memory that a reconstructor owns: a fault of this crate.
     pub(crate) fn of(number: u64) -> Self {
         match number {
-            1 => Self::LimitAboveCeiling,
-            4 => Self::NotAPiece,
-            5 => Self::AmountOutOfRange,
+            sys::LIMIT_ABOVE_CEILING => Self::LimitAboveCeiling,
+            sys::NOT_A_PIECE => Self::NotAPiece,
+            sys::AMOUNT_OUT_OF_RANGE => Self::AmountOutOfRange,
             _ => unreachable!("the library answered {number} on memory of a reconstructor"),
         }
     }
@@ -287,9 +287,9 @@ impl Refusal {
     #[must_use]
     pub fn number(self) -> u64 {
         match self {
-            Self::LimitAboveCeiling => 1,
-            Self::NotAPiece => 4,
-            Self::AmountOutOfRange => 5,
+            Self::LimitAboveCeiling => sys::LIMIT_ABOVE_CEILING,
+            Self::NotAPiece => sys::NOT_A_PIECE,
+            Self::AmountOutOfRange => sys::AMOUNT_OUT_OF_RANGE,
         }
     }
 }

@@ -28,8 +28,8 @@ impl BookReconstructor {
     pub(in crate::l3) fn view(&self, number: u64) -> Result<(), ViewError> {
         match number {
             0 => Ok(()),
-            15 => Err(ViewError::NotBootstrapped),
-            18 => Err(ViewError::Invalidated(self.in_force())),
+            sys::NOT_BOOTSTRAPPED => Err(ViewError::NotBootstrapped),
+            sys::VIEW_INVALIDATED => Err(ViewError::Invalidated(self.in_force())),
             _ => Err(ViewError::Refused(Refusal::of(number))),
         }
     }
@@ -97,8 +97,8 @@ impl BookReconstructor {
     pub fn stale_l2(&self, side: L3Side) -> Option<Vec<(Decimal, Decimal)>> {
         match self.levels(L2_WORDS, sys::stale_l2, side) {
             (0, words) => Some(words.chunks_exact(L2_WORDS).map(level).collect()),
-            // 1: a book whose limits are too high never took a snapshot, so it is not invalid.
-            (NOT_STALE | 1, _) => None,
+            // A book whose limits are too high never took a snapshot, so it is not invalid.
+            (NOT_STALE | sys::LIMIT_ABOVE_CEILING, _) => None,
             (number, _) => unreachable!("the library answered {number} on memory of its own"),
         }
     }
