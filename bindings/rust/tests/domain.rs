@@ -219,3 +219,10 @@ fn a_book_can_be_shared_between_threads() {
     fn shared<T: Send + Sync>(_: &T) {}
     shared(&book());
 }
+
+#[test]
+fn refusals_have_01s_numbers() {
+    assert_eq!(Refusal::LimitAboveCeiling.number(), 1);
+    assert_eq!(Refusal::NotAPiece.number(), 4);
+    assert_eq!(Refusal::AmountOutOfRange.number(), 5);
+}

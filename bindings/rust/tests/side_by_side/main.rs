@@ -10,7 +10,7 @@ use rust_decimal::Decimal;
 
 use std::collections::BTreeMap;
 
-use books::{Estimated, L3Book, Original, Ported};
+use books::{Estimated, L3Book, Original, Ported, Rules};
 use pinuglaw::l3::{L3Message, L3Side};
 use rand::Rng;
 use source::{BOOKS, Source};
@@ -71,6 +71,15 @@ struct Pair {
     ours: Ported,
 }
 
+impl Pair {
+    fn new(product: &str, rules: &Rules) -> Self {
+        Self {
+            theirs: Original::new(product, rules),
+            ours: Ported::new(product, rules),
+        }
+    }
+}
+
 /// An estimate of each kind, and the place of the book that made it.
 struct Estimates {
     at: usize,
@@ -114,10 +123,7 @@ impl Run {
 
     fn pair(source: &mut Source) -> Pair {
         let (product, rules) = (source.product(), source.rules());
-        Pair {
-            theirs: Original::new(product, &rules),
-            ours: Ported::new(product, &rules),
-        }
+        Pair::new(product, &rules)
     }
 
     /// Both must say the same.
@@ -276,4 +282,40 @@ fn every_result_is_the_rusts() {
     let rarest = cases.min().expect("cases");
     println!("{results} results compared; the rarest case is {rarest:?}");
     assert!(rarest.0 > 0, "never met: {rarest:?}");
+}
+
+/// 4,096 orders, half of them at one price.
+#[test]
+fn a_full_book_reads_as_the_rusts() {
+    let mut run = Run::new(0);
+    let rules = Rules {
+        keeps_priority: true,
+        max_orders: 4_096,
+        max_levels: 4_096,
+    };
+    let snapshot = run.source.full_snapshot();
+    run.books[0] = Pair::new(&snapshot.product_id, &rules);
+    same!(run, 0, bootstrap(&snapshot));
+    for side in SIDES {
+        same!(run, 0, l2(side));
+        same!(run, 0, priority_profile(side));
+    }
+    same!(run, 0, level_queue(L3Side::Sell, snapshot.asks[0].price));
+    while run.estimates.is_empty() {
+        run.estimate(0);
+    }
+    run.volume_ahead(0);
+    let one_too_many = L3Message {
+        product_id: snapshot.product_id.clone(),
+        sequence: snapshot.sequence + 1,
+        time_us: 0,
+        event: run.source.sound_open(),
+    };
+    same!(run, 0, apply(&one_too_many));
+    let full = run
+        .met
+        .contains_key(&("apply", "CapacityExceeded".to_string()));
+    assert!(full, "the book takes one order more");
+    same!(run, 0, stale_l2(L3Side::Buy));
+    same!(run, 0, manifest());
 }

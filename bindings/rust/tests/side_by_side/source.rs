@@ -116,13 +116,17 @@ impl Source {
         amount(units)
     }
 
+    fn new_id(&mut self) -> String {
+        self.fresh += 1;
+        uuid(self.fresh)
+    }
+
     /// A new id, or one of a few that return.
     fn id(&mut self) -> String {
         if self.chance(15) {
             return uuid(self.random.gen_range(0..8));
         }
-        self.fresh += 1;
-        uuid(self.fresh)
+        self.new_id()
     }
 
     fn resting(&mut self, book: &BookReconstructor) -> Option<Order> {
@@ -246,6 +250,16 @@ impl Source {
         }
     }
 
+    /// An open that fits every book with room for it and an ask above 1.
+    pub fn sound_open(&mut self) -> L3Event {
+        L3Event::Open {
+            order_id: self.new_id(),
+            side: L3Side::Buy,
+            price: amount(1),
+            remaining: amount(1),
+        }
+    }
+
     fn done(&mut self, book: &BookReconstructor) -> L3Event {
         let Order(order_id, side, price, remaining) = self.some_order(book);
         // One that does not rest.
@@ -339,14 +353,32 @@ impl Source {
         }
     }
 
+    /// As many orders as the port can hold: bids at 64 prices, asks at one.
+    pub fn full_snapshot(&mut self) -> L3Snapshot {
+        let mut orders = |price: fn(i64) -> i64| -> Vec<SnapshotOrder> {
+            let order = |place: i64| SnapshotOrder {
+                order_id: self.new_id(),
+                price: amount(price(place)),
+                size: amount(MOST - place),
+            };
+            (0..2_048).map(order).collect()
+        };
+        let (bids, asks) = (orders(|place| 1 + place % 64), orders(|_| 100));
+        L3Snapshot {
+            product_id: self.product().to_string(),
+            sequence: 100,
+            bids,
+            asks,
+        }
+    }
+
     fn snapshot_order(&mut self, side: L3Side) -> SnapshotOrder {
         let flawed = self.chance(3);
-        self.fresh += 1;
         SnapshotOrder {
             order_id: if self.chance(8) {
                 uuid(self.random.gen_range(0..8))
             } else {
-                uuid(self.fresh)
+                self.new_id()
             },
             price: if flawed {
                 self.odd_price()
