@@ -65,7 +65,8 @@ enum pinuglaw_number {
     PINUGLAW_PRIORITY_UNKNOWN = 51,
     PINUGLAW_NOT_RESTING = 52,
     PINUGLAW_BOOK_CHANGED = 256, /* of a message: applied, the book changed */
-    PINUGLAW_NOT_STALE = 256, /* of pinuglaw_stale_l2: the book is not invalid, nothing is written */
+    PINUGLAW_NOT_STALE = 256, /* of pinuglaw_stale_l2 and pinuglaw_invalidation: the book is not invalid, nothing is written */
+    PINUGLAW_NO_RECORD = 256, /* of pinuglaw_segment: no record there, nothing is written */
     PINUGLAW_DROPPED = 512 /* of pinuglaw_step: at or below the snapshot's sequence, counted as handshake_dropped */
 };
 
@@ -133,7 +134,21 @@ enum pinuglaw_segment {
     PINUGLAW_SEGMENT_END_DETAIL = 5, /* of 38: 1 funds, 0 no size */
     PINUGLAW_SEGMENT_FIRST_US = 6, /* time_us of the first and of the latest accepted message */
     PINUGLAW_SEGMENT_LAST_US = 7,
-    PINUGLAW_SEGMENT_WORDS = 8
+    PINUGLAW_SEGMENT_WORDS = 8,
+    PINUGLAW_SEGMENT_ELAPSED = 8, /* pinuglaw_segment adds these two */
+    PINUGLAW_SEGMENT_ACCEPTED = 9,
+    PINUGLAW_RECORD_WORDS = 10
+};
+
+/* An invalidation, as pinuglaw_invalidation writes it: words 7 to 12 of the state. */
+enum pinuglaw_invalidated {
+    PINUGLAW_INVALIDATION_LAST_GOOD_SEQ = 0,
+    PINUGLAW_INVALIDATION_FIRST_OFFENDING_SEQ = 1,
+    PINUGLAW_INVALIDATION_REASON = 2, /* 20 to 22 or 30 to 44 */
+    PINUGLAW_INVALIDATION_FIRST = 3, /* of 20 the expected sequence, of 21 the last one */
+    PINUGLAW_INVALIDATION_SECOND = 4, /* of 20 and 21 the sequence that came */
+    PINUGLAW_INVALIDATION_DETAIL = 5, /* of 38: 1 funds, 0 no size */
+    PINUGLAW_INVALIDATION_WORDS = 6
 };
 
 /* A message. Fields from word 5 on depend on the kind; an optional amount is two words, whether it is there (0, else 1) and its value. */
@@ -319,6 +334,12 @@ uint64_t pinuglaw_best(const uint64_t *state, size_t state_len, const uint64_t *
 
 /* The audit of a valid book. */
 uint64_t pinuglaw_audit(const uint64_t *state, size_t state_len, const uint64_t *rows, size_t rows_len);
+
+/* The invalidation in force, into PINUGLAW_INVALIDATION_WORDS. PINUGLAW_NOT_STALE of a book that is not invalid. Asks for no rows. */
+uint64_t pinuglaw_invalidation(const uint64_t *state, size_t state_len, uint64_t *out, size_t out_len);
+
+/* The record of the segment at a place of the list, into PINUGLAW_RECORD_WORDS. PINUGLAW_NO_RECORD where the book or the list has none there. */
+uint64_t pinuglaw_segment(const uint64_t *state, size_t state_len, const uint64_t *segments, size_t segments_len, size_t place, uint64_t *out, size_t out_len);
 
 /*
  * The level reads. Scratch is at least max_orders words, of which success zeroes as many. Entries go into out, their number into one word of count. Buys run

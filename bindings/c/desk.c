@@ -315,6 +315,12 @@ static void check_small_reads(struct book *b)
     WORDS(best, [PINUGLAW_BEST_HAS_BID] = 1, [PINUGLAW_BEST_BID] = 10, [PINUGLAW_BEST_HAS_ASK] = 1, [PINUGLAW_BEST_ASK] = 12);
     SAME(pinuglaw_audit(LENT(b->state), LENT(b->rows)), PINUGLAW_OK);
     SAME(pinuglaw_audit(LENT(b->state), b->rows, 23), PINUGLAW_MEMORY_TOO_SHORT);
+    uint64_t why[PINUGLAW_INVALIDATION_WORDS] = {5, 5, 5, 5, 5, 5}, record[PINUGLAW_RECORD_WORDS];
+    SAME(pinuglaw_invalidation(LENT(b->state), LENT(why)), PINUGLAW_NOT_STALE);
+    WORDS(why, 5, 5, 5, 5, 5, 5);
+    SAME(pinuglaw_segment(LENT(b->state), LENT(b->segments), 0, LENT(record)), PINUGLAW_OK);
+    WORDS(record, 100, 101, 0, 0, 0, 0, 101000, 101000, [PINUGLAW_SEGMENT_ELAPSED] = 0, [PINUGLAW_SEGMENT_ACCEPTED] = 1);
+    SAME(pinuglaw_segment(LENT(b->state), LENT(b->segments), 1, LENT(record)), PINUGLAW_NO_RECORD);
 }
 
 #define VOLUME(at, total, snapshot, observed, orders) \
@@ -357,6 +363,11 @@ static void check_resent(struct book *b)
     WORDS(b->state, big_word(PRODUCT), big_word(PRODUCT + 8), 0, 3, 3, 41, PINUGLAW_STATUS_INVALID, 102, 102, PINUGLAW_OUT_OF_ORDER_OR_DUPLICATE, 102, 102, 0, 2, 1, 0,
           1, 0, 1, 0, 0, 0, 0, 1, 0, 0, 0);
     WORDS(b->segments, 100, 102, PINUGLAW_OUT_OF_ORDER_OR_DUPLICATE, 102, 102, 0, 101000, 102000, 0, 0, 0, 0, 0, 0, 0, 0);
+    uint64_t why[PINUGLAW_INVALIDATION_WORDS], record[PINUGLAW_RECORD_WORDS];
+    SAME(pinuglaw_invalidation(LENT(b->state), LENT(why)), PINUGLAW_OK);
+    WORDS(why, 102, 102, [PINUGLAW_INVALIDATION_REASON] = PINUGLAW_OUT_OF_ORDER_OR_DUPLICATE, 102, 102, 0);
+    SAME(pinuglaw_segment(LENT(b->state), LENT(b->segments), 0, LENT(record)), PINUGLAW_OK);
+    WORDS(record, 100, 102, PINUGLAW_OUT_OF_ORDER_OR_DUPLICATE, 102, 102, 0, 101000, 102000, 1000, 2);
     SAME(pinuglaw_volume_ahead(LENT(b->state), LENT(b->rows), LENT(own), own, 0, LENT(volume)), PINUGLAW_VIEW_INVALIDATED);
     SAME(pinuglaw_stale_l2(LENT(b->state), LENT(b->rows), LENT(b->scratch), BUY, LENT(out), LENT(count)), PINUGLAW_OK);
     SAME(count[0], 1);

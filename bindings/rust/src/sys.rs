@@ -54,6 +54,10 @@ exported! {
     fn pinuglaw_best as best(state: &[u64], rows: &[u64], out: &mut [u64]) -> u64;
     /// The audit of a valid book.
     fn pinuglaw_audit as audit(state: &[u64], rows: &[u64]) -> u64;
+    /// The invalidation in force, into [`INVALIDATION_WORDS`]; [`NOT_STALE`] of a book that is not invalid.
+    fn pinuglaw_invalidation as invalidation(state: &[u64], out: &mut [u64]) -> u64;
+    /// The record of the segment at a place, into [`RECORD_WORDS`]; [`NO_RECORD`] where there is none.
+    fn pinuglaw_segment as segment(state: &[u64], segments: &[u64], place: usize, out: &mut [u64]) -> u64;
     /// The orders at a side and price, [`QUEUE_WORDS`] each.
     fn pinuglaw_level_queue as level_queue(state: &[u64], rows: &[u64], scratch: &mut [u64], side: u64, price: u64, out: &mut [u64], count: &mut [u64]) -> u64;
     /// The levels of a side, [`PROFILE_WORDS`] each.
@@ -142,6 +146,8 @@ pub const NOT_RESTING: u64 = 52;
 pub const BOOK_CHANGED: u64 = 256;
 /// The answer of [`stale_l2`] on a book that is not invalid.
 pub const NOT_STALE: u64 = 256;
+/// No record at that place.
+pub const NO_RECORD: u64 = 256;
 /// The answer to a step whose message lies at or below the snapshot's sequence.
 pub const DROPPED: u64 = 512;
 
@@ -161,18 +167,6 @@ pub const STATE_MAX_ORDERS: usize = 3;
 pub const STATE_MAX_LEVELS: usize = 4;
 /// The reconstructor's number.
 pub const STATE_NUMBER: usize = 5;
-/// The last sequence; of an invalid book the last good one.
-pub const STATE_LAST: usize = 7;
-/// The offending sequence of an invalid book.
-pub const STATE_OFFENDING: usize = 8;
-/// The reason of an invalid book, 20 to 44.
-pub const STATE_REASON: usize = 9;
-/// Of 20 the expected sequence, of 21 the last one.
-pub const STATE_FIRST: usize = 10;
-/// Of 20 and 21 the sequence that came.
-pub const STATE_SECOND: usize = 11;
-/// Of 38: 1 funds, 0 no size.
-pub const STATE_DETAIL: usize = 12;
 /// Rows in use.
 pub const STATE_ROWS: usize = 13;
 /// Segment records in use.
@@ -215,6 +209,30 @@ pub const SEGMENT_FIRST_US: usize = 6;
 pub const SEGMENT_LAST_US: usize = 7;
 /// The words of a record.
 pub const SEGMENT_WORDS: usize = 8;
+
+// A record as `segment` writes it: those, and two more.
+/// Its elapsed time.
+pub const SEGMENT_ELAPSED: usize = 8;
+/// How many messages it accepted.
+pub const SEGMENT_ACCEPTED: usize = 9;
+/// Its words.
+pub const RECORD_WORDS: usize = 10;
+
+// An invalidation: words 7 to 12 of the state.
+/// The last good sequence.
+pub const INVALIDATION_LAST_GOOD_SEQ: usize = 0;
+/// The offending sequence.
+pub const INVALIDATION_FIRST_OFFENDING_SEQ: usize = 1;
+/// The reason, 20 to 44.
+pub const INVALIDATION_REASON: usize = 2;
+/// Of 20 the expected sequence, of 21 the last one.
+pub const INVALIDATION_FIRST: usize = 3;
+/// Of 20 and 21 the sequence that came.
+pub const INVALIDATION_SECOND: usize = 4;
+/// Of 38: 1 funds, 0 no size.
+pub const INVALIDATION_DETAIL: usize = 5;
+/// Its words.
+pub const INVALIDATION_WORDS: usize = 6;
 
 // Other blocks.
 /// The words of a message.

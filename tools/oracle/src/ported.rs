@@ -1,5 +1,4 @@
-//! The port as a `Subject`: every call through the exported functions. What a host reads of its own words (manifest, invalidation) is
-//! read of the words that the calls left.
+//! The port as a `Subject`: every call through the exported functions.
 
 mod book;
 pub mod cases;
@@ -196,10 +195,7 @@ impl Ported {
             } => self.bootstrap_with_buffer(call, *slot, piece, buffer),
             Act::Manifest => Some(Reply::new(0, self.books[&call.book].manifest(&call.lent))),
             Act::Invalidation => {
-                let why = match self.books[&call.book].status() {
-                    Status::Invalid(why) => Some(why),
-                    Status::NoSnapshot | Status::Valid => None,
-                };
+                let why = self.books[&call.book].invalidation();
                 Some(Reply::new(0, Values::InForce(why)))
             }
             act => {

@@ -11,12 +11,13 @@ use super::message::{L3Message, L3Snapshot};
 use super::reasons::{self, Met};
 use super::words;
 use crate::sys::{
-    self, BOOK_CHANGED, CEILING, DROPPED, HANDSHAKE_APPLIED, HANDSHAKE_WORDS, MESSAGE_WORDS,
+    self, BOOK_CHANGED, CEILING, DROPPED, HANDSHAKE_APPLIED, HANDSHAKE_WORDS, INVALIDATION_DETAIL,
+    INVALIDATION_FIRST, INVALIDATION_FIRST_OFFENDING_SEQ, INVALIDATION_LAST_GOOD_SEQ,
+    INVALIDATION_REASON, INVALIDATION_SECOND, INVALIDATION_WORDS, MESSAGE_WORDS, RECORD_WORDS,
     ROW_WORDS, SEGMENT_END, SEGMENT_FIRST_US, SEGMENT_LAST_GOOD_SEQ, SEGMENT_LAST_US,
-    SEGMENT_START_SEQ, SEGMENT_WORDS, STATE_DETAIL, STATE_FIRST, STATE_LAST, STATE_MAX_LEVELS,
-    STATE_MAX_ORDERS, STATE_NUMBER, STATE_OFFENDING, STATE_PRODUCT_HIGH, STATE_PRODUCT_LOW,
-    STATE_REASON, STATE_RECEIVED, STATE_ROWS, STATE_SECOND, STATE_SEGMENTS, STATE_SIZE_DECREASE,
-    STATE_WORDS,
+    SEGMENT_START_SEQ, SEGMENT_WORDS, STATE_MAX_LEVELS, STATE_MAX_ORDERS, STATE_NUMBER,
+    STATE_PRODUCT_HIGH, STATE_PRODUCT_LOW, STATE_RECEIVED, STATE_ROWS, STATE_SEGMENTS,
+    STATE_SIZE_DECREASE, STATE_WORDS,
 };
 
 pub use errors::{
@@ -253,16 +254,18 @@ impl BookReconstructor {
 
     /// The invalidation that the state holds, which `message` caused.
     fn why(&self, message: &L3Message) -> Invalidation {
-        let (first, second) = (self.state[STATE_FIRST], self.state[STATE_SECOND]);
+        let mut words = [0; INVALIDATION_WORDS];
+        sys::invalidation(&self.state, &mut words);
+        let (first, second) = (words[INVALIDATION_FIRST], words[INVALIDATION_SECOND]);
         let met = Met {
             rows: self.rows_in_use(),
             rules: self.manifest.rules,
         };
-        let funds = self.state[STATE_DETAIL] != 0;
+        let funds = words[INVALIDATION_DETAIL] != 0;
         Invalidation {
-            last_good_seq: self.state[STATE_LAST],
-            first_offending_seq: self.state[STATE_OFFENDING],
-            kind: match self.state[STATE_REASON] {
+            last_good_seq: words[INVALIDATION_LAST_GOOD_SEQ],
+            first_offending_seq: words[INVALIDATION_FIRST_OFFENDING_SEQ],
+            kind: match words[INVALIDATION_REASON] {
                 sys::GAP => InvalidationKind::Gap {
                     expected: first,
                     got: second,
@@ -292,9 +295,13 @@ impl BookReconstructor {
         &self.rows[..ROW_WORDS * self.state[STATE_ROWS] as usize]
     }
 
-    fn segment_words(&self, place: usize) -> Option<&[u64]> {
-        let used = SEGMENT_WORDS * self.state[STATE_SEGMENTS] as usize;
-        self.segments[..used].chunks_exact(SEGMENT_WORDS).nth(place)
+    /// The record of the segment at a place of the list.
+    fn segment_words(&self, place: usize) -> Option<[u64; RECORD_WORDS]> {
+        let mut record = [0; RECORD_WORDS];
+        match sys::segment(&self.state, &self.segments, place, &mut record) {
+            0 => Some(record),
+            _ => None,
+        }
     }
 
     fn record_counts(&mut self) {

@@ -7,7 +7,10 @@ use super::lend;
 pub const BEST_WORDS: usize = 4;
 pub const ESTIMATE_WORDS: usize = 8;
 pub const AHEAD_WORDS: usize = 7;
-/// The answer of `stale_l2` where the book is not invalid.
+/// The words of an invalidation and of a segment's record.
+pub const INVALIDATION_WORDS: usize = 6;
+pub const RECORD_WORDS: usize = 10;
+/// The answer of `stale_l2` and `invalidation` where the book is not invalid, and of `segment` where there is no record.
 pub const NO_STALE: u64 = 256;
 
 /// A level read of a side: state, rows, scratch, side, entries, their count.
@@ -88,6 +91,21 @@ mod exported {
             out_len: usize,
             count: *mut u64,
             count_len: usize,
+        ) -> u64;
+        pub fn pinuglaw_invalidation(
+            state: *const u64,
+            state_len: usize,
+            out: *mut u64,
+            out_len: usize,
+        ) -> u64;
+        pub fn pinuglaw_segment(
+            state: *const u64,
+            state_len: usize,
+            segments: *const u64,
+            segments_len: usize,
+            place: usize,
+            out: *mut u64,
+            out_len: usize,
         ) -> u64;
         pub fn pinuglaw_stale_l2(
             state: *const u64,
@@ -180,6 +198,33 @@ pub fn audit(state: &[u64], rows: &[u64]) -> u64 {
     let rows = lend::read(rows);
     // SAFETY: as above.
     unsafe { exported::pinuglaw_audit(state.at(), state.length(), rows.at(), rows.length()) }
+}
+
+/// Writes the six words of the invalidation in force.
+pub fn invalidation(state: &[u64], out: &mut [u64]) -> u64 {
+    let state = lend::read(state);
+    let out = lend::write(out);
+    // SAFETY: as above.
+    unsafe { exported::pinuglaw_invalidation(state.at(), state.length(), out.at(), out.length()) }
+}
+
+/// Writes the ten words of a segment's record.
+pub fn segment(state: &[u64], segments: &[u64], place: usize, out: &mut [u64]) -> u64 {
+    let state = lend::read(state);
+    let segments = lend::read(segments);
+    let out = lend::write(out);
+    // SAFETY: as above.
+    unsafe {
+        exported::pinuglaw_segment(
+            state.at(),
+            state.length(),
+            segments.at(),
+            segments.length(),
+            place,
+            out.at(),
+            out.length(),
+        )
+    }
 }
 
 /// Writes five words an order.

@@ -69,6 +69,24 @@ fn record_words(segment: &Segment) -> [u64; RECORD] {
     ]
 }
 
+/// What `read` writes into `N` words, if it answers 0. Lent one word fewer it must answer 7; any answer but 0 must leave the words; guards stay.
+fn written<const N: usize>(read: impl Fn(&mut [u64]) -> u64) -> Option<[u64; N]> {
+    let mut out = [GUARD; 16];
+    assert_eq!(read(&mut out[..N - 1]), 7, "one word too few");
+    assert_eq!(out, [GUARD; 16], "words of a refusal");
+    let answer = read(&mut out[..N]);
+    assert_eq!(out[N..], [GUARD; 16][N..], "words past the output");
+    if answer != 0 {
+        assert_eq!(
+            (answer, out),
+            (port::reads::NO_STALE, [GUARD; 16]),
+            "nothing to write"
+        );
+        return None;
+    }
+    out[..N].try_into().ok()
+}
+
 fn record_of(words: &[u64]) -> Segment {
     Segment {
         start_seq: words[0],
@@ -329,10 +347,35 @@ impl Book {
         record.map_or(0, |record| record.start_seq)
     }
 
+    /// The invalidation in force, as the library writes it.
+    pub fn invalidation(&self) -> Option<Invalidation> {
+        let state = &self.block[..port::BLOCK_WORDS];
+        let words = written(|out| port::reads::invalidation(state, out))?;
+        let [last_good_seq, first_offending_seq, reason, _, _, detail] = words;
+        Some(Invalidation {
+            last_good_seq,
+            first_offending_seq,
+            reason: reason as u8,
+            funds: detail == 1,
+        })
+    }
+
+    /// The record at a place of the lent list, as the library writes it.
+    fn segment(&self, lent: &Lent, place: usize) -> Option<Segment> {
+        let records = (self.segments.len() - GUARDS) / RECORD;
+        let list = &self.segments[..RECORD * records.min(lent.segments as usize)];
+        let state = &self.block[..port::BLOCK_WORDS];
+        let words: [u64; port::reads::RECORD_WORDS] =
+            written(|out| port::reads::segment(state, list, place, out))?;
+        let [start, good, .., first, last, elapsed, accepted] = words;
+        let computed = (last.saturating_sub(first), good.saturating_sub(start));
+        assert_eq!((elapsed, accepted), computed, "elapsed time and messages");
+        Some(record_of(&words[..RECORD]))
+    }
+
     /// What the words say of the book, and the records below both the segment count and the lent length.
     pub fn manifest(&self, lent: &Lent) -> Values {
         let product = u128::from(self.block[0]) << 64 | u128::from(self.block[1]);
-        let shown = self.segments().min(lent.segments);
         Values::Manifest {
             product: product.to_be_bytes(),
             rules: Rules {
@@ -345,7 +388,7 @@ impl Book {
             },
             number: self.number(),
             counts: self.counts(),
-            segments: self.records().into_iter().take(shown as usize).collect(),
+            segments: (0..).map_while(|place| self.segment(lent, place)).collect(),
         }
     }
 
