@@ -98,8 +98,8 @@ abbrev at : ℕ → L3Event → L3Message
 at seq e = of 80 seq e
 
 -- "Events are at 101 unless said"
-abbrev now : L3Event → L3Message
-now e = at 101 e
+abbrev at101 : L3Event → L3Message
+at101 e = at 101 e
 
 -- ---- calls
 
@@ -135,7 +135,7 @@ abbrev changed : ℕ → L3Event
 changed n = Change a Buy Stp Absent Absent (Given (pos n)) Absent Absent Absent
 
 abbrev opened : Call
-opened = onE (now (Open o Buy (pos 10) (pos 5)))
+opened = onE (at101 (Open o Buy (pos 10) (pos 5)))
 
 -- a row of 01's table: its number, and the example beside it
 pub record Row : Type 0 where
@@ -147,31 +147,31 @@ row n c = record { number = n; example = c }
 
 abbrev table : List Row
 table =
-    row 1 (record { book = book (Valid 100) 4097 2 1; rows = rowsE; list = listE; message = now (Received z Buy) }) ∷
-    row 2 (record { book = book (Valid 100) 3 2 1; rows = short 10; list = listE; message = now (Received z Buy) }) ∷
-    row 3 (record { book = book (Valid 100) 3 2 1; rows = short 0 ++ (7 ∷ []); list = listE; message = now (Received z Buy) }) ∷
-    row 5 (onE (now (Open o Buy (pos 1000000000000001) (pos 1)))) ∷
+    row 1 (record { book = book (Valid 100) 4097 2 1; rows = rowsE; list = listE; message = at101 (Received z Buy) }) ∷
+    row 2 (record { book = book (Valid 100) 3 2 1; rows = short 10; list = listE; message = at101 (Received z Buy) }) ∷
+    row 3 (record { book = book (Valid 100) 3 2 1; rows = short 0 ++ (7 ∷ []); list = listE; message = at101 (Received z Buy) }) ∷
+    row 5 (onE (at101 (Open o Buy (pos 1000000000000001) (pos 1)))) ∷
     row 10 (onE (of 81 101 (Open o Buy (pos 10) (pos 1)))) ∷
-    row 15 (record { book = book Empty 3 0 0; rows = rowsE; list = []; message = now (Open o Buy (pos 10) (pos 1)) }) ∷
-    row 17 (next (onE (now (Unsupported 7))) (now (Unsupported 7))) ∷
+    row 15 (record { book = book Empty 3 0 0; rows = rowsE; list = []; message = at101 (Open o Buy (pos 10) (pos 1)) }) ∷
+    row 17 (next (onE (at101 (Unsupported 7))) (at101 (Unsupported 7))) ∷
     row 20 (onE (at 102 (Received z Buy))) ∷
     row 21 (onE (at 100 (Received z Buy))) ∷
     row 22 (record { book = book (Valid largest) 3 2 1; rows = rowsE; list = listE; message = at 0 (Received z Buy) }) ∷
-    row 30 (onE (now (Match z o Buy (pos 10) (pos 1)))) ∷
-    row 31 (onE (now (Match z a Buy (pos 10) (pos 1)))) ∷
-    row 32 (onE (now (Match a z Buy (pos 11) (pos 1)))) ∷
-    row 33 (onE (now (Match a z Buy (pos 10) (pos 3)))) ∷
-    row 34 (onE (now (Open a Buy (pos 10) (pos 1)))) ∷
-    row 35 (onE (now (Done a Buy Absent Filled Absent))) ∷
-    row 36 (onE (now (Done a Buy Absent Canceled Absent))) ∷
-    row 37 (onE (now (Done a Sell Absent Canceled (Given (pos 2))))) ∷
-    row 38 (onE (now (Change a Buy Stp Absent Absent Absent Absent Absent Absent))) ∷
-    row 39 (onE (now (Change a Buy Stp Absent (Given (pos 9)) (Given (pos 1)) Absent Absent Absent))) ∷
-    row 40 (onE (now (changed 3))) ∷
-    row 41 (onE (now (Open o Buy (pos 12) (pos 1)))) ∷
-    row 42 (onE (now (Open o Buy (pos 10) (pos 0)))) ∷
+    row 30 (onE (at101 (Match z o Buy (pos 10) (pos 1)))) ∷
+    row 31 (onE (at101 (Match z a Buy (pos 10) (pos 1)))) ∷
+    row 32 (onE (at101 (Match a z Buy (pos 11) (pos 1)))) ∷
+    row 33 (onE (at101 (Match a z Buy (pos 10) (pos 3)))) ∷
+    row 34 (onE (at101 (Open a Buy (pos 10) (pos 1)))) ∷
+    row 35 (onE (at101 (Done a Buy Absent Filled Absent))) ∷
+    row 36 (onE (at101 (Done a Buy Absent Canceled Absent))) ∷
+    row 37 (onE (at101 (Done a Sell Absent Canceled (Given (pos 2))))) ∷
+    row 38 (onE (at101 (Change a Buy Stp Absent Absent Absent Absent Absent Absent))) ∷
+    row 39 (onE (at101 (Change a Buy Stp Absent (Given (pos 9)) (Given (pos 1)) Absent Absent Absent))) ∷
+    row 40 (onE (at101 (changed 3))) ∷
+    row 41 (onE (at101 (Open o Buy (pos 12) (pos 1)))) ∷
+    row 42 (onE (at101 (Open o Buy (pos 10) (pos 0)))) ∷
     row 43 (next opened (at 102 (Open (id 4) Buy (pos 10) (pos 1)))) ∷
-    row 44 (onE (now (Unsupported 7))) ∷
+    row 44 (onE (at101 (Unsupported 7))) ∷
     []
 
 -- ---- steps
@@ -190,11 +190,11 @@ again p m = stepped ceiling (p .handshake) (p .book) (p .rows) (p .segments) m
 -- 9, of a handshake that 16 ended, of one that is of another book; a message of before the snapshot is dropped, one of after it applied
 abbrev steps : List StepAnswer
 steps =
-    again (stepE (handshake 1 false) (now (Unsupported 7))) (now (Received z Buy)) .answer ∷
-    stepE (handshake 2 false) (now (Received z Buy)) .answer ∷
-    stepE (handshake 1 true) (now (Received z Buy)) .answer ∷
+    again (stepE (handshake 1 false) (at101 (Unsupported 7))) (at101 (Received z Buy)) .answer ∷
+    stepE (handshake 2 false) (at101 (Received z Buy)) .answer ∷
+    stepE (handshake 1 true) (at101 (Received z Buy)) .answer ∷
     stepE (handshake 1 false) (at 100 (Received z Buy)) .answer ∷
-    stepE (handshake 1 false) (now (Received z Buy)) .answer ∷
+    stepE (handshake 1 false) (at101 (Received z Buy)) .answer ∷
     []
 
 -- ---- reads, on E and on what calls left
@@ -224,13 +224,13 @@ guess place = record { side = Buy; price = pos 10; segment = record { number = 1
 
 abbrev reads : List ℕ
 reads =
-    levelNumber (levelQueue ceiling (onE (now (Received z Buy)) .book) rowsE scratch Buy (pos 10) [] .answer) ∷
-    aheadNumber (volumeAhead ceiling (onE (now (Received z Buy)) .book) rowsE (guess 0) (0 ∷ 1 ∷ [])) ∷
+    levelNumber (levelQueue ceiling (onE (at101 (Received z Buy)) .book) rowsE scratch Buy (pos 10) [] .answer) ∷
+    aheadNumber (volumeAhead ceiling (onE (at101 (Received z Buy)) .book) rowsE (guess 0) (0 ∷ 1 ∷ [])) ∷
     levelNumber (l2 ceiling (book Empty 3 0 0) rowsE scratch Buy [] .answer) ∷
     auditNumber (auditRead ceiling (after gap .book) (after gap .rows)) ∷
     aheadNumber (volumeAhead ceiling (book (Valid 100) 3 2 2) rowsE (guess 0) (0 ∷ 1 ∷ 100 ∷ [])) ∷
-    estimateNumber (own (onE (now (Received z Buy)) .book) rowsE a) ∷
-    estimateNumber (own (onE (now (Received z Buy)) .book) rowsE z) ∷
+    estimateNumber (own (onE (at101 (Received z Buy)) .book) rowsE a) ∷
+    estimateNumber (own (onE (at101 (Received z Buy)) .book) rowsE z) ∷
     []
 
 -- ---- C1, C2, C3
@@ -239,7 +239,7 @@ abbrev matched : Call
 matched = next opened (at 102 (Match a z Buy (pos 10) (pos 2)))
 
 abbrev canceled : Call
-canceled = onE (now (Done z Buy Absent Canceled Absent))
+canceled = onE (at101 (Done z Buy Absent Canceled Absent))
 
 -- an own order's figure: when it was read, the volume ahead, all of it from the snapshot, and the number of orders
 abbrev figure : ℕ → ℕ → ℕ → QueueAhead
