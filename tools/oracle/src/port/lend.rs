@@ -4,6 +4,8 @@
 use std::cell::RefCell;
 use std::ffi::{c_int, c_void};
 use std::marker::PhantomData;
+use std::ops::{Deref, DerefMut};
+use std::slice;
 use std::sync::atomic::{AtomicU8, Ordering};
 
 /// Where a lent slice lies.
@@ -70,7 +72,7 @@ impl Room {
     }
 
     fn protect(&self, protection: c_int) {
-        // SAFETY: the room is mapped, and no reference into it is ever made.
+        // SAFETY: the room is mapped, and nobody has a reference into it while its protection changes.
         let done = unsafe { system::mprotect(self.0.cast(), ROOM, protection) };
         assert_eq!(done, 0, "the protection is set");
     }
@@ -142,9 +144,22 @@ impl<T: Copy> Lent<'_, T> {
     pub fn at(&self) -> *mut T {
         self.copy.as_ref().map_or(self.slice, |copy| copy.1)
     }
+}
 
-    pub fn length(&self) -> usize {
-        self.length
+impl<T: Copy> Deref for Lent<'_, T> {
+    type Target = [T];
+
+    fn deref(&self) -> &[T] {
+        // SAFETY: the lender's slice, or its copy in a room that is this one's alone.
+        unsafe { slice::from_raw_parts(self.at(), self.length) }
+    }
+}
+
+impl<T: Copy> DerefMut for Lent<'_, T> {
+    fn deref_mut(&mut self) -> &mut [T] {
+        assert!(self.written, "lent to be read");
+        // SAFETY: as above; it was lent to be written.
+        unsafe { slice::from_raw_parts_mut(self.at(), self.length) }
     }
 }
 

@@ -1,230 +1,40 @@
 //! The reads and estimates that crate `host` exports. A side is a word, 0 buy, else sell; an amount is its two's-complement word.
 //! The answer is 0 or 01's number; 7 also where a slice of a fixed size is shorter than that, and then nothing is touched.
 
-use super::lend;
+use super::{lend, sys};
 
 /// The words of a best pair, of an estimate and of a volume ahead; one word counts the entries of a level read.
-pub const BEST_WORDS: usize = 4;
-pub const ESTIMATE_WORDS: usize = 8;
-pub const AHEAD_WORDS: usize = 7;
-/// The words of an invalidation and of a segment's record.
-pub const INVALIDATION_WORDS: usize = 6;
-pub const RECORD_WORDS: usize = 10;
+pub use sys::BEST_WORDS;
+pub use sys::ESTIMATE_WORDS;
 /// The answer of `stale_l2` and `invalidation` where the book is not invalid, and of `segment` where there is no record.
-pub const NO_STALE: u64 = 256;
-
-/// A level read of a side: state, rows, scratch, side, entries, their count.
-type LevelRead = unsafe extern "C" fn(
-    state: *const u64,
-    state_len: usize,
-    rows: *const u64,
-    rows_len: usize,
-    scratch: *mut u64,
-    scratch_len: usize,
-    side: u64,
-    out: *mut u64,
-    out_len: usize,
-    count: *mut u64,
-    count_len: usize,
-) -> u64;
-
-mod exported {
-    unsafe extern "C" {
-        pub fn pinuglaw_last_sequence(
-            state: *const u64,
-            state_len: usize,
-            rows: *const u64,
-            rows_len: usize,
-            out: *mut u64,
-            out_len: usize,
-        ) -> u64;
-        pub fn pinuglaw_best(
-            state: *const u64,
-            state_len: usize,
-            rows: *const u64,
-            rows_len: usize,
-            out: *mut u64,
-            out_len: usize,
-        ) -> u64;
-        pub fn pinuglaw_audit(
-            state: *const u64,
-            state_len: usize,
-            rows: *const u64,
-            rows_len: usize,
-        ) -> u64;
-        pub fn pinuglaw_level_queue(
-            state: *const u64,
-            state_len: usize,
-            rows: *const u64,
-            rows_len: usize,
-            scratch: *mut u64,
-            scratch_len: usize,
-            side: u64,
-            price: u64,
-            out: *mut u64,
-            out_len: usize,
-            count: *mut u64,
-            count_len: usize,
-        ) -> u64;
-        pub fn pinuglaw_priority_profile(
-            state: *const u64,
-            state_len: usize,
-            rows: *const u64,
-            rows_len: usize,
-            scratch: *mut u64,
-            scratch_len: usize,
-            side: u64,
-            out: *mut u64,
-            out_len: usize,
-            count: *mut u64,
-            count_len: usize,
-        ) -> u64;
-        pub fn pinuglaw_l2(
-            state: *const u64,
-            state_len: usize,
-            rows: *const u64,
-            rows_len: usize,
-            scratch: *mut u64,
-            scratch_len: usize,
-            side: u64,
-            out: *mut u64,
-            out_len: usize,
-            count: *mut u64,
-            count_len: usize,
-        ) -> u64;
-        pub fn pinuglaw_invalidation(
-            state: *const u64,
-            state_len: usize,
-            out: *mut u64,
-            out_len: usize,
-        ) -> u64;
-        pub fn pinuglaw_segment(
-            state: *const u64,
-            state_len: usize,
-            segments: *const u64,
-            segments_len: usize,
-            place: usize,
-            out: *mut u64,
-            out_len: usize,
-        ) -> u64;
-        pub fn pinuglaw_stale_l2(
-            state: *const u64,
-            state_len: usize,
-            rows: *const u64,
-            rows_len: usize,
-            scratch: *mut u64,
-            scratch_len: usize,
-            side: u64,
-            out: *mut u64,
-            out_len: usize,
-            count: *mut u64,
-            count_len: usize,
-        ) -> u64;
-        pub fn pinuglaw_queue_estimate(
-            state: *const u64,
-            state_len: usize,
-            rows: *const u64,
-            rows_len: usize,
-            side: u64,
-            price: u64,
-            ahead: *mut u64,
-            ahead_len: usize,
-            estimate: *mut u64,
-            estimate_len: usize,
-        ) -> u64;
-        pub fn pinuglaw_queue_estimate_own(
-            state: *const u64,
-            state_len: usize,
-            rows: *const u64,
-            rows_len: usize,
-            id_high: u64,
-            id_low: u64,
-            estimate: *mut u64,
-            estimate_len: usize,
-        ) -> u64;
-        pub fn pinuglaw_volume_ahead(
-            state: *const u64,
-            state_len: usize,
-            rows: *const u64,
-            rows_len: usize,
-            estimate: *const u64,
-            estimate_len: usize,
-            ahead: *const u64,
-            ahead_len: usize,
-            out: *mut u64,
-            out_len: usize,
-        ) -> u64;
-    }
-}
+pub use sys::NOT_STALE as NO_STALE;
+/// The words of a segment's record.
+pub use sys::RECORD_WORDS;
+pub use sys::VOLUME_WORDS as AHEAD_WORDS;
 
 /// Writes the sequence.
 pub fn last_sequence(state: &[u64], rows: &[u64], out: &mut [u64]) -> u64 {
-    let state = lend::read(state);
-    let rows = lend::read(rows);
-    let out = lend::write(out);
-    // SAFETY: the slices are lent whole for the call, the borrows keep them apart, and the function keeps none.
-    unsafe {
-        exported::pinuglaw_last_sequence(
-            state.at(),
-            state.length(),
-            rows.at(),
-            rows.length(),
-            out.at(),
-            out.length(),
-        )
-    }
+    sys::last_sequence(&lend::read(state), &lend::read(rows), &mut lend::write(out))
 }
 
 /// Writes bid present, bid, ask present, ask; an absent price is 0.
 pub fn best(state: &[u64], rows: &[u64], out: &mut [u64]) -> u64 {
-    let state = lend::read(state);
-    let rows = lend::read(rows);
-    let out = lend::write(out);
-    // SAFETY: as above.
-    unsafe {
-        exported::pinuglaw_best(
-            state.at(),
-            state.length(),
-            rows.at(),
-            rows.length(),
-            out.at(),
-            out.length(),
-        )
-    }
+    sys::best(&lend::read(state), &lend::read(rows), &mut lend::write(out))
 }
 
 pub fn audit(state: &[u64], rows: &[u64]) -> u64 {
-    let state = lend::read(state);
-    let rows = lend::read(rows);
-    // SAFETY: as above.
-    unsafe { exported::pinuglaw_audit(state.at(), state.length(), rows.at(), rows.length()) }
+    sys::audit(&lend::read(state), &lend::read(rows))
 }
 
 /// Writes the six words of the invalidation in force.
 pub fn invalidation(state: &[u64], out: &mut [u64]) -> u64 {
-    let state = lend::read(state);
-    let out = lend::write(out);
-    // SAFETY: as above.
-    unsafe { exported::pinuglaw_invalidation(state.at(), state.length(), out.at(), out.length()) }
+    sys::invalidation(&lend::read(state), &mut lend::write(out))
 }
 
 /// Writes the ten words of a segment's record.
 pub fn segment(state: &[u64], segments: &[u64], place: usize, out: &mut [u64]) -> u64 {
-    let state = lend::read(state);
-    let segments = lend::read(segments);
-    let out = lend::write(out);
-    // SAFETY: as above.
-    unsafe {
-        exported::pinuglaw_segment(
-            state.at(),
-            state.length(),
-            segments.at(),
-            segments.length(),
-            place,
-            out.at(),
-            out.length(),
-        )
-    }
+    let (state, segments) = (lend::read(state), lend::read(segments));
+    sys::segment(&state, &segments, place, &mut lend::write(out))
 }
 
 /// Writes five words an order.
@@ -236,29 +46,19 @@ pub fn level_queue(
     out: &mut [u64],
     count: &mut [u64],
 ) -> u64 {
-    let state = lend::read(state);
-    let rows = lend::read(rows);
-    let scratch = lend::write(scratch);
-    let out = lend::write(out);
-    let count = lend::write(count);
-    // SAFETY: as above.
-    unsafe {
-        exported::pinuglaw_level_queue(
-            state.at(),
-            state.length(),
-            rows.at(),
-            rows.length(),
-            scratch.at(),
-            scratch.length(),
-            side,
-            price,
-            out.at(),
-            out.length(),
-            count.at(),
-            count.length(),
-        )
-    }
+    sys::level_queue(
+        &lend::read(state),
+        &lend::read(rows),
+        &mut lend::write(scratch),
+        side,
+        price,
+        &mut lend::write(out),
+        &mut lend::write(count),
+    )
 }
+
+/// A level read of a side: state, rows, scratch, side, entries, their count.
+type LevelRead = fn(&[u64], &[u64], &mut [u64], u64, &mut [u64], &mut [u64]) -> u64;
 
 fn level_read(
     read: LevelRead,
@@ -269,27 +69,14 @@ fn level_read(
     out: &mut [u64],
     count: &mut [u64],
 ) -> u64 {
-    let state = lend::read(state);
-    let rows = lend::read(rows);
-    let scratch = lend::write(scratch);
-    let out = lend::write(out);
-    let count = lend::write(count);
-    // SAFETY: as above.
-    unsafe {
-        read(
-            state.at(),
-            state.length(),
-            rows.at(),
-            rows.length(),
-            scratch.at(),
-            scratch.length(),
-            side,
-            out.at(),
-            out.length(),
-            count.at(),
-            count.length(),
-        )
-    }
+    read(
+        &lend::read(state),
+        &lend::read(rows),
+        &mut lend::write(scratch),
+        side,
+        &mut lend::write(out),
+        &mut lend::write(count),
+    )
 }
 
 /// Writes three words a level.
@@ -301,8 +88,15 @@ pub fn priority_profile(
     out: &mut [u64],
     count: &mut [u64],
 ) -> u64 {
-    let read = exported::pinuglaw_priority_profile;
-    level_read(read, state, rows, scratch, side, out, count)
+    level_read(
+        sys::priority_profile,
+        state,
+        rows,
+        scratch,
+        side,
+        out,
+        count,
+    )
 }
 
 /// Writes two words a level.
@@ -314,8 +108,7 @@ pub fn l2(
     out: &mut [u64],
     count: &mut [u64],
 ) -> u64 {
-    let read = exported::pinuglaw_l2;
-    level_read(read, state, rows, scratch, side, out, count)
+    level_read(sys::l2, state, rows, scratch, side, out, count)
 }
 
 /// As `l2`, of an invalid book; of any other it answers [`NO_STALE`].
@@ -327,8 +120,7 @@ pub fn stale_l2(
     out: &mut [u64],
     count: &mut [u64],
 ) -> u64 {
-    let read = exported::pinuglaw_stale_l2;
-    level_read(read, state, rows, scratch, side, out, count)
+    level_read(sys::stale_l2, state, rows, scratch, side, out, count)
 }
 
 /// Writes three words an order ahead, and the estimate.
@@ -339,45 +131,21 @@ pub fn queue_estimate(
     ahead: &mut [u64],
     estimate: &mut [u64],
 ) -> u64 {
-    let state = lend::read(state);
-    let rows = lend::read(rows);
-    let ahead = lend::write(ahead);
-    let estimate = lend::write(estimate);
-    // SAFETY: as above.
-    unsafe {
-        exported::pinuglaw_queue_estimate(
-            state.at(),
-            state.length(),
-            rows.at(),
-            rows.length(),
-            side,
-            price,
-            ahead.at(),
-            ahead.length(),
-            estimate.at(),
-            estimate.length(),
-        )
-    }
+    sys::queue_estimate(
+        &lend::read(state),
+        &lend::read(rows),
+        side,
+        price,
+        &mut lend::write(ahead),
+        &mut lend::write(estimate),
+    )
 }
 
 /// Writes the estimate of an own order.
 pub fn queue_estimate_own(state: &[u64], rows: &[u64], id: u128, estimate: &mut [u64]) -> u64 {
-    let state = lend::read(state);
-    let rows = lend::read(rows);
-    let estimate = lend::write(estimate);
-    // SAFETY: as above.
-    unsafe {
-        exported::pinuglaw_queue_estimate_own(
-            state.at(),
-            state.length(),
-            rows.at(),
-            rows.length(),
-            (id >> 64) as u64,
-            id as u64,
-            estimate.at(),
-            estimate.length(),
-        )
-    }
+    let (high, low) = ((id >> 64) as u64, id as u64);
+    let (state, rows) = (lend::read(state), lend::read(rows));
+    sys::queue_estimate_own(&state, &rows, high, low, &mut lend::write(estimate))
 }
 
 /// Writes at_seq, volume, from_snapshot, observed, orders, the first assumption, and 1 if a decrease is assumed to keep its priority.
@@ -388,24 +156,11 @@ pub fn volume_ahead(
     ahead: &[u64],
     out: &mut [u64],
 ) -> u64 {
-    let state = lend::read(state);
-    let rows = lend::read(rows);
-    let estimate = lend::read(estimate);
-    let ahead = lend::read(ahead);
-    let out = lend::write(out);
-    // SAFETY: as above.
-    unsafe {
-        exported::pinuglaw_volume_ahead(
-            state.at(),
-            state.length(),
-            rows.at(),
-            rows.length(),
-            estimate.at(),
-            estimate.length(),
-            ahead.at(),
-            ahead.length(),
-            out.at(),
-            out.length(),
-        )
-    }
+    sys::volume_ahead(
+        &lend::read(state),
+        &lend::read(rows),
+        &lend::read(estimate),
+        &lend::read(ahead),
+        &mut lend::write(out),
+    )
 }
