@@ -110,14 +110,20 @@ impl Generator {
 
     /// The next call with the Rust's answer.
     pub fn next_answered(&mut self) -> (Call, Answer) {
+        self.next_asked(Some).expect("every call is asked")
+    }
+
+    /// As [`Self::next_answered`], with the call that `ask` makes of the next one; where it makes none, nothing is called.
+    pub fn next_asked(&mut self, ask: impl FnOnce(Call) -> Option<Call>) -> Option<(Call, Answer)> {
         let call = match self.queued.pop_front() {
             Some(call) => call,
             None => self.invent(),
         };
         self.calls += 1;
+        let call = ask(call)?;
         let answer = self.rust.call(&call);
         self.follow(&call, &answer);
-        (call, answer)
+        Some((call, answer))
     }
 
     /// How the latest call began to damage its book, told once. The writes that follow and an audit come right after it.

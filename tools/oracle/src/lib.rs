@@ -24,6 +24,7 @@ pub mod rust;
 #[cfg(feature = "port")]
 pub mod show;
 pub mod shrink;
+pub mod vectors;
 
 /// The Rust being ported, byte for byte.
 #[allow(dead_code)]

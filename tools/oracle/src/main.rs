@@ -14,8 +14,10 @@ use oracle::pieces;
 use oracle::ported::Ported;
 use oracle::rust::Rust;
 use oracle::shrink::{Small, shrink};
+use oracle::vectors;
 
-const USAGE: &str = "usage: oracle gen SEED N | run | model | compare SEED N | pieces DIR
+const USAGE: &str =
+    "usage: oracle gen SEED N | run | model | compare SEED N | pieces DIR | vectors DIR
 with the feature `port`: oracle reader SEED N | port SEED N [THREADS] | ported SEED | bench [NAME ..] | show";
 
 fn main() -> ExitCode {
@@ -27,6 +29,7 @@ fn main() -> ExitCode {
         ["model"] => answer(&mut Model::new()),
         ["compare", seed, count] => numbers(seed, count).and_then(|(s, n)| side_by_side(s, n)),
         ["pieces", folder] => pieces::write(Path::new(folder)).map_err(|e| e.to_string()),
+        ["vectors", folder] => vectors::write(Path::new(folder)).map_err(|e| e.to_string()),
         #[cfg(feature = "port")]
         ["reader", seed, count] => numbers(seed, count).and_then(|(s, n)| readers(s, n)),
         #[cfg(feature = "port")]

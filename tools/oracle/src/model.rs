@@ -108,6 +108,12 @@ impl Model {
         }
     }
 
+    /// A book's row words and segment records.
+    pub fn memory(&self, slot: u8) -> Option<(&[u64], &[Segment])> {
+        let book = self.books.get(&slot)?;
+        Some((&book.words, &book.list))
+    }
+
     /// None if a slot that the call names is empty.
     fn reply(&mut self, call: &Call) -> Option<Reply> {
         match &call.act {

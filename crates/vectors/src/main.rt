@@ -1,0 +1,66 @@
+// Makes the recorded calls of standard input on one book, and prints a line for each: whose answer is recorded, the call, the number that it answers, the
+// values that it gives, and after ';' digests of the memory that it may write. specs/Format.antt of crate `recorded` says how a call is recorded. The calls and the lines
+// in `stdin` and `stdout` beside this folder were made from the Rust by `oracle vectors` (tools/oracle).
+mod calls;
+mod memory;
+mod print;
+
+use libc::STDIN_FILENO;
+use recorded::Header;
+use recorded::least;
+use recorded::read_header;
+
+// A call on the book.
+fn perform(h: Header, payload: &[u8], state: &mut [u64], rows: &mut [u64], segments: &mut [u64]) {
+    print::voice(h.voice);
+    print::name(h.operation);
+    let operation = h.operation;
+    match operation {
+        0 => calls::create(h, payload, state, rows, segments),
+        1 => calls::write(h, payload, state, rows, segments),
+        2 => calls::bootstrap(payload, state, rows, segments),
+        3 => calls::apply(payload, state, rows, segments),
+        4 => calls::begin(state),
+        5 => calls::step(payload, state, rows, segments),
+        6 => calls::last_sequence(state, rows),
+        7 => calls::best(state, rows),
+        8 => calls::audit(state, rows),
+        9..=12 => calls::level_read(h, state, rows),
+        13 => calls::queue_estimate(h, state, rows),
+        14 => calls::queue_estimate_own(h, state, rows),
+        15 => calls::volume_ahead(payload, state, rows),
+        _ => print::end(),
+    }
+}
+
+// Lends the call as much of the memory as its header says.
+fn lend(h: Header, payload: &[u8], state: &mut [u64], rows: &mut [u64], segments: &mut [u64]) {
+    let r = least(h.rows, rows.len());
+    let s = least(h.segments, segments.len());
+    perform(h, payload, state, &mut rows[..r], &mut segments[..s]);
+}
+
+// Every call of the input, up to one that it does not hold whole.
+fn replay(input: &[u8]) {
+    let mut state = [0u64; 27];
+    let mut rows = [0u64; 2048];
+    let mut segments = [0u64; 512];
+    let mut at: usize = 0;
+    while 32 <= input.len() - at {
+        let start = at + 32;
+        let h = read_header(&input[at..start]);
+        let n = h.payload;
+        if input.len() - start < n {
+            return;
+        }
+        let end = start + n;
+        lend(h, &input[start..end], &mut state, &mut rows, &mut segments);
+        at = end;
+    }
+}
+
+fn main() {
+    let mut input = [0u8; 524288];
+    let n = io::read_full(STDIN_FILENO, &mut input);
+    replay(&input[..n]);
+}
