@@ -18,6 +18,8 @@
 --   13 queue_estimate        the price
 --   14 queue_estimate_own    the id's high and low word
 --   15 volume_ahead          the estimate's eight words, then the words of its list
+--   16 invalidation
+--   17 segment               its place in the list
 -- Any other is answered by a line without a number. A list ends where fewer bytes are left than a call has.
 use Prim.Native.Nat.{ℕ, zero, suc, _+_, _-_, _*_}
 use mathlib.Core.List.{List}

@@ -100,6 +100,20 @@ pub fn audit(state: &[u64], rows: &[u64]) {
     print::end();
 }
 
+pub fn invalidation(state: &[u64]) {
+    let mut out = [0u64; 6];
+    let number = host::pinuglaw_invalidation(state, &mut out);
+    show(number, state, &out);
+    print::end();
+}
+
+pub fn segment(h: Header, state: &[u64], segments: &[u64]) {
+    let mut out = [0u64; 10];
+    let number = host::pinuglaw_segment(state, segments, h.first as usize, &mut out);
+    show(number, state, &out);
+    print::end();
+}
+
 fn level_call(
     h: Header,
     state: &[u64],

@@ -29,6 +29,8 @@ fn perform(h: Header, payload: &[u8], state: &mut [u64], rows: &mut [u64], segme
         13 => calls::queue_estimate(h, state, rows),
         14 => calls::queue_estimate_own(h, state, rows),
         15 => calls::volume_ahead(payload, state, rows),
+        16 => calls::invalidation(state),
+        17 => calls::segment(h, state, segments),
         _ => print::end(),
     }
 }

@@ -34,6 +34,8 @@ pub fn name(operation: u64) {
         13 => text(b" queue_estimate"),
         14 => text(b" queue_estimate_own"),
         15 => text(b" volume_ahead"),
+        16 => text(b" invalidation"),
+        17 => text(b" segment"),
         _ => text(b" unknown"),
     }
 }

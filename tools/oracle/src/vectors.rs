@@ -22,7 +22,7 @@ use crate::piece::{Product, decode_message};
 use record::Record;
 
 /// With this seed so few calls meet every number of 01's table twice.
-const SEED: u64 = 109;
+const SEED: u64 = 57;
 const CALLS: u64 = 3_000;
 /// The program's memory, in words; of segments in records.
 const ROWS: u64 = 2_048;
@@ -95,8 +95,8 @@ impl Recorder {
         };
         match &call.act {
             Act::Create { .. } => self.ask_creation(call),
-            Act::Manifest | Act::Invalidation | Act::BootstrapWithBuffer { .. } => None,
             Act::ReadMessage { .. } | Act::ReadSnapshot { .. } => None,
+            Act::BootstrapWithBuffer { .. } => None,
             Act::ForgeHandshake { .. } | Act::SetAhead { .. } => Some(call),
             Act::ForgeEstimate { list, .. } => (list.len() as u64 <= AHEAD).then_some(call),
             _ if !self.books.contains_key(&call.book) => None,
@@ -213,6 +213,11 @@ impl Recorder {
             handshake: match call.act {
                 Act::Step { slot, .. } => self.handshakes.get(&slot).copied(),
                 _ => None,
+            },
+            place: match &said.values {
+                // Of a manifest the last record that it shows.
+                Values::Manifest { segments, .. } => segments.len().saturating_sub(1) as u64,
+                _ => 0,
             },
             estimate: match call.act {
                 Act::VolumeAhead { slot } => self.estimates.get(&slot).cloned(),

@@ -48,7 +48,7 @@ fn the_sample_is_the_committed_one_and_meets_every_number() {
     let met: BTreeSet<u8> = sample.numbers.keys().copied().collect();
     let missing: Vec<&u8> = table.difference(&met).collect();
     assert!(missing.is_empty(), "numbers not met: {missing:?}");
-    assert_eq!(sample.names.len(), 18, "every kind of call");
+    assert_eq!(sample.names.len(), 20, "every kind of call");
     assert_eq!(sample.output.lines().count() as u64, sample.calls);
     check_files(&sample);
 }

@@ -17,6 +17,8 @@ pub struct Record<'a> {
     pub rows: u64,
     pub segments: u64,
     pub lent: Lent,
+    /// The place of the segment asked for.
+    pub place: u64,
     /// What a step or a volume ahead is handed.
     pub handshake: Option<Handshake>,
     pub estimate: Option<(Estimate, Vec<u64>)>,
@@ -54,6 +56,8 @@ fn operation(act: &Act) -> Option<(u8, &'static str)> {
         Act::QueueEstimate { .. } => (13, "queue_estimate"),
         Act::QueueEstimateOwn { .. } => (14, "queue_estimate_own"),
         Act::VolumeAhead { .. } => (15, "volume_ahead"),
+        Act::Invalidation => (16, "invalidation"),
+        Act::Manifest => (17, "segment"),
         _ => return None,
     })
 }
@@ -83,6 +87,7 @@ impl Record<'_> {
                 let [high, low] = words::id(order_id);
                 (0, high, low)
             }
+            Act::Manifest => (0, self.place, 0),
             _ => (0, 0, 0),
         }
     }
@@ -283,6 +288,12 @@ fn number_and_values(said: &Said) -> Vec<u64> {
             [&[number][..], &words::estimate(estimate), list].concat()
         }
         Values::Ahead(ahead) => [&[number][..], &ahead_words(ahead)].concat(),
+        Values::InForce(why) => why.map_or(vec![256], |why| {
+            [&[number][..], &words::reason(&why)].concat()
+        }),
+        Values::Manifest { segments, .. } => segments.last().map_or(vec![256], |record| {
+            [&[number][..], &words::shown(record)].concat()
+        }),
         other => unreachable!("no call has these values: {other:?}"),
     }
 }

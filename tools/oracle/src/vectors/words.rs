@@ -64,21 +64,34 @@ pub fn invalidation(why: &Invalidation) -> [u64; 4] {
     ]
 }
 
+/// An invalidation with all that its reason holds: words 7 to 12 of a state.
+pub fn reason(why: &Invalidation) -> [u64; 6] {
+    let [good, offending, reason, detail] = invalidation(why);
+    let [first, second] = match reason {
+        20 => [good.wrapping_add(1), offending],
+        21 => [good, offending],
+        _ => [0; 2],
+    };
+    [good, offending, reason, first, second, detail]
+}
+
 /// Words 6 to 12 of a state.
 fn status(state: &State) -> [u64; 7] {
     match state.status {
         Status::NoSnapshot => [0; 7],
         Status::Valid => [1, state.last_sequence, 0, 0, 0, 0, 0],
         Status::Invalid(why) => {
-            let [good, offending, reason, detail] = invalidation(&why);
-            let [first, second] = match reason {
-                20 => [good.wrapping_add(1), offending],
-                21 => [good, offending],
-                _ => [0; 2],
-            };
+            let [good, offending, reason, first, second, detail] = reason(&why);
             [2, good, offending, reason, first, second, detail]
         }
     }
+}
+
+/// A record, its elapsed time, and how many messages it accepted.
+pub fn shown(segment: &Segment) -> Vec<u64> {
+    let elapsed = segment.last_us.saturating_sub(segment.first_us);
+    let accepted = segment.last_good_seq.saturating_sub(segment.start_seq);
+    [&record(segment)[..], &[elapsed, accepted]].concat()
 }
 
 /// Words 0 to 5 of a state: what a creation sets.
