@@ -308,6 +308,14 @@ uint64_t pinuglaw_apply(uint64_t *state, size_t state_len, uint64_t *rows, size_
                         size_t message_len);
 
 /*
+ * Applies the messages, PINUGLAW_MESSAGE_WORDS each, in turn: what as many calls of pinuglaw_apply answer and leave, the number of each in a word of `answers`.
+ * Answers 0; 1, 2 or 3 where every message would be told so, and PINUGLAW_OUTPUT_TOO_SMALL where there are fewer answer words than messages: then nothing is
+ * touched. Words past the last whole message are not read.
+ */
+uint64_t pinuglaw_replay(uint64_t *state, size_t state_len, uint64_t *rows, size_t rows_len, uint64_t *segments, size_t segments_len, const uint64_t *messages,
+                         size_t messages_len, uint64_t *answers, size_t answers_len);
+
+/*
  * Takes a snapshot piece: 0, or in this order 1, 2, 3, 4, 5, 6, 10, 14 of orders, then order by order 11, 12, 14 of levels, last 13. A refusal leaves every
  * word but the count that 10 to 14 raise.
  */

@@ -42,6 +42,8 @@ exported! {
     fn pinuglaw_rows_broken as rows_broken(rows: &[u64], n: usize, max_levels: usize) -> bool;
     /// Applies a message: [`BOOK_CHANGED`], 0 for one without effect, else 01's number.
     fn pinuglaw_apply as apply(state: &mut [u64], rows: &mut [u64], segments: &mut [u64], message: &[u64]) -> u64;
+    /// Applies messages, [`MESSAGE_WORDS`] each, in turn, the number of each into a word of `answers`: 0, or 1, 2 or 3 of them all.
+    fn pinuglaw_replay as replay(state: &mut [u64], rows: &mut [u64], segments: &mut [u64], messages: &[u64], answers: &mut [u64]) -> u64;
     /// Takes a snapshot piece.
     fn pinuglaw_bootstrap as bootstrap(state: &mut [u64], rows: &mut [u64], segments: &mut [u64], bytes: &[u8]) -> u64;
     /// Makes a handshake for the segment that the book is in.

@@ -75,8 +75,8 @@ fn spread(key: Key) -> u64
 }
 
 // The bucket of a key, of `m`.
-fn bucket(key: Key, m: usize) -> usize
-    requires { ⌜ (0 < m) × (m ≤ ceiling) ⌝ }
+pub fn bucket(key: Key, m: usize) -> usize
+    requires { ⌜ (0 < m) × (m ≤ 65536) ⌝ }
     ensures { λ r. ⌜ (r ≡ bucketOf key m) × (r < m) ⌝ }
 {
     let wide = m as u64;

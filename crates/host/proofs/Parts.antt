@@ -3,6 +3,7 @@
 use mathlib.Core.Path.{_≡_, ap}
 use Rattle.host_reads.specs.Answers.{Answered}
 use Rattle.host_calls.specs.Calls.{Call, StepCall}
+use Rattle.host_replay.specs.Replay.{ReplayCall}
 use Rattle.host_views.specs.Views.{LevelCall}
 use Rattle.host_estimates.specs.Estimates.{EstimateCall}
 
@@ -24,6 +25,19 @@ step-parts e = (
     (
       ap (λ (x : StepCall). x .rows) e,
       (ap (λ (x : StepCall). x .segments) e, ap (λ (x : StepCall). x .handshake) e),
+    ),
+  ),
+)
+
+pub replay-parts : {a b : ReplayCall} → a ≡ b
+    → (a .number ≡ b .number) × ((a .state ≡ b .state) × ((a .rows ≡ b .rows) × ((a .segments ≡ b .segments) × (a .answers ≡ b .answers))))
+replay-parts e = (
+  ap (λ (x : ReplayCall). x .number) e,
+  (
+    ap (λ (x : ReplayCall). x .state) e,
+    (
+      ap (λ (x : ReplayCall). x .rows) e,
+      (ap (λ (x : ReplayCall). x .segments) e, ap (λ (x : ReplayCall). x .answers) e),
     ),
   ),
 )

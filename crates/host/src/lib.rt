@@ -6,6 +6,7 @@ ghost use Rattle.piece.specs.Piece.{readMessage, readSnapshot, orderAt};
 ghost use Rattle.book.specs.Broken.{wordsBroken};
 ghost use Rattle.host_pieces.specs.Pieces.{messageNumber, messageOut, snapshotNumber, snapshotOut, orderNumber, orderOut};
 ghost use Rattle.host_calls.specs.Calls.{applyCall, bootstrapCall, handshakeCall, stepCall};
+ghost use Rattle.host_replay.specs.Replay.{replayCall};
 ghost use Rattle.host_views.specs.Views.{lastCall, bestCall, auditCall, invalidationCall, segmentCall, queueCall, profileCall, l2Call, staleCall};
 ghost use Rattle.host_estimates.specs.Estimates.{estimateCall, ownCall, aheadCall};
 
@@ -106,6 +107,26 @@ pub extern "C" fn pinuglaw_step(
     ensures handshake { λ r. ⌜ now (handshake .exit) ≡ stepCall (now (state .entry)) (now (rows .entry)) (now (segments .entry)) (now (handshake .entry)) (now (message .entry)) .handshake ⌝ }
 {
     host_calls::step(state, rows, segments, handshake, message)
+}
+
+// Applies the messages in `messages`, 21 words each, in turn: what as many calls of `pinuglaw_apply` answer and leave, with the number of each message in a
+// word of `answers`, and the words past those untouched. Words past the last whole message are not read. Answers 0; 1, 2 or 3, and touches nothing, where every
+// message would be told so; 7, and touches nothing, where fewer than 27 words of state, or fewer answer words than messages, are lent.
+#[no_mangle]
+pub extern "C" fn pinuglaw_replay(
+    state: &mut [u64],
+    rows: &mut [u64],
+    segments: &mut [u64],
+    messages: &[u64],
+    answers: &mut [u64],
+) -> u64
+    ensures number { λ r. ⌜ r ≡ replayCall (now (state .entry)) (now (rows .entry)) (now (segments .entry)) (now (messages .entry)) (now (answers .entry)) .number ⌝ }
+    ensures state { λ r. ⌜ now (state .exit) ≡ replayCall (now (state .entry)) (now (rows .entry)) (now (segments .entry)) (now (messages .entry)) (now (answers .entry)) .state ⌝ }
+    ensures rows { λ r. ⌜ now (rows .exit) ≡ replayCall (now (state .entry)) (now (rows .entry)) (now (segments .entry)) (now (messages .entry)) (now (answers .entry)) .rows ⌝ }
+    ensures segments { λ r. ⌜ now (segments .exit) ≡ replayCall (now (state .entry)) (now (rows .entry)) (now (segments .entry)) (now (messages .entry)) (now (answers .entry)) .segments ⌝ }
+    ensures answers { λ r. ⌜ now (answers .exit) ≡ replayCall (now (state .entry)) (now (rows .entry)) (now (segments .entry)) (now (messages .entry)) (now (answers .entry)) .answers ⌝ }
+{
+    host_replay::replay(state, rows, segments, messages, answers)
 }
 
 // ---- reads. Each answers 0 or 01's number, and 7, writing nothing, where a part is shorter than its fixed size: 27 words of state, 8 of an estimate, 7 of a

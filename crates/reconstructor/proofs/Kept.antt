@@ -3,7 +3,7 @@
 -- Assumes nothing.
 use Prim.Native.Nat.{ℕ, _*_, _-_, _≤_, _<_}
 use mathlib.Core.Path.{_≡_, refl, sym, subst, _∙_, ap}
-use mathlib.Core.Bool.{false, true}
+use mathlib.Core.Bool.{Bool, false, true}
 use mathlib.Core.List.{List}
 use mathlib.Core.Option.{Option, none, some}
 use native.Mathlib.Omega.{arith}
@@ -16,6 +16,8 @@ use Rattle.book.specs.declared.Resting.{Resting}
 use Rattle.book.specs.Line.{Entry}
 use Rattle.book.specs.Rows.{rowsOf, lineOf, stored}
 use Rattle.book.specs.Broken.{WellFormed}
+use Rattle.book_index.specs.declared.Bounds.{Bounds}
+use Rattle.book_index.specs.Index.{rowMarked, rowBounded, all, Indexed, Foreseen, noted}
 use Rattle.reconstructor_answers.specs.declared.Invalidation.{Invalidation}
 use Rattle.reconstructor_answers.specs.declared.InvalidationKind.{InvalidationKind}
 use Rattle.reconstructor_counts.specs.declared.MessageCounts.{MessageCounts}
@@ -36,6 +38,7 @@ use Rattle.reconstructor_segments.proofs.Segments.{length-set-segment}
 use Rattle.reconstructor_state.proofs.Checks.{passed, first-passed}
 use Rattle.reconstructor_checks.proofs.Own.{sound, kept, rows-lent, segments-lent, has-segment}
 use Rattle.reconstructor_plan.proofs.Kept.{event-formed, line-by}
+use Rattle.reconstructor_plan.proofs.Indexed.{noted-marks, event-marked, event-bounded}
 use Rattle.reconstructor.proofs.Laws.{admitted-valid, gate-trusted}
 use Rattle.reconstructor_answers.specs.declared.ApplyAnswer.the-variants as answers
 
@@ -171,6 +174,41 @@ module _ (top : ℕ) (b : BookReconstructor) (ws sg : List ℕ) (u : Usable top 
   -- the same of what a call of `apply_trusted` was seen to leave: the next one may follow
   pub usable-again : (m : L3Message) (r : Reply) (vs tg : List ℕ) → leaves r vs tg ≡ applied top b ws sg m → Usable top (r .book) vs tg
   usable-again m r vs tg e = subst (λ (p : Parts). Usable top (p .book) (p .rows) (p .segments)) (sym e) (usable-kept m)
+
+-- ---- an index stays one
+
+-- the rows that a call leaves, as many as its state says
+abbrev rowsLeft : Parts → List Resting
+rowsLeft p = rowsOf (p .rows) (p .book .rows)
+
+module _ (f : Resting → Bool) (b : BookReconstructor) (ws : List ℕ) (m : L3Message) (h : all f (rowsOf ws (b .rows)) ≡ true)
+    (q : all f (eventDeed (rowsOf ws (b .rows)) (m .sequence) (m .event) .rows) ≡ true) where
+  settled-all : (last : ℕ) (o : Option InvalidationKind) → all f (rowsOf (settled b ws last m o .rows) (settled b ws last m o .book .rows)) ≡ true
+  unfolding settled invalidatedReply accepted acceptedReply
+  settled-all last (some k) = h
+  settled-all last none = ap (all f) (rows-stored ws (b .rows) (eventDeed (rowsOf ws (b .rows)) (m .sequence) (m .event) .rows)) ∙ q
+
+  gated-all : (sg : List ℕ) (o : Option ApplyAnswer) → all f (rowsLeft (gated b ws sg m o)) ≡ true
+  unfolding gated refusedReply
+  gated-all sg (some a) = rw (refusal-counts b a) h
+  gated-all sg none = settled-all (lastOf (b .status)) (turnRefusal (b .rules) (lineOf (rowsOf ws (b .rows))) (lastOf (b .status)) m)
+
+  applied-all : (top : ℕ) (sg : List ℕ) → all f (rowsLeft (applied top b ws sg m)) ≡ true
+  unfolding applied
+  applied-all top sg = gated-all sg (bookGate top b ws sg m)
+
+-- one that foresaw the message, once that is noted, is an index of the rows that the message leaves
+pub indexed-kept : (top : ℕ) (b : BookReconstructor) (ws sg : List ℕ) (m : L3Message) (places : List ℕ) (bounds : Bounds) (n : ℕ) → Usable top b ws sg
+    → Indexed places bounds (rowsOf ws (b .rows)) → Foreseen bounds (m .event) → length (noted places n (m .event)) ≡ length places
+    → Indexed (noted places n (m .event)) bounds (rowsLeft (applied top b ws sg m))
+indexed-kept top b ws sg m places bounds n u i w l =
+    let os : List Resting = rowsOf ws (b .rows) in
+    record {
+      few = rw l (i .few);
+      marks = applied-all (rowMarked (noted places n (m .event))) b ws m (noted-marks places n (m .event) os (i .marks)) (event-marked places n os (m .sequence) (m .event) (i .marks)) top sg;
+      within = applied-all (rowBounded bounds) b ws m (i .within) (event-bounded bounds os (m .sequence) (m .event) w (i .within)) top sg;
+      single = sound (applied top b ws sg m .book) (applied top b ws sg m .rows) (usable-kept top b ws sg u m .sound) .formed .single;
+    }
 
 -- ---- the line after an accepted message is its effect on the line before
 

@@ -1,4 +1,5 @@
 // One message applied to a book: `apply` checks the state and what it is lent, then `apply_trusted` works the message.
+use book_index::Bounds;
 use message::L3Message;
 use reconstructor_answers::Applied;
 use reconstructor_answers::ApplyAnswer;
@@ -15,6 +16,7 @@ ghost use mathlib.Core.Path.{_≡_};
 ghost use Prim.Native.Nat.{_*_, _≤_, _<_};
 ghost use lib.ListN.{length};
 ghost use Rattle.book.specs.Rows.{ceiling, rowsOf, lineOf};
+ghost use Rattle.book_index.specs.Index.{Indexed};
 ghost use Rattle.reconstructor_state.specs.State.{lastOf};
 ghost use Rattle.reconstructor_checks.specs.Own.{Usable};
 ghost use Rattle.reconstructor_plan.specs.Rules.{eventDeed};
@@ -122,8 +124,16 @@ fn admit(book: BookReconstructor, message: L3Message) -> Admitted
 }
 
 // The turn of a message: its sequence, then its event.
-fn take_turn(book: BookReconstructor, rows: &[u64], last_seq: u64, message: L3Message) -> Turn
+fn take_turn(
+    book: BookReconstructor,
+    rows: &[u64],
+    places: &[u16],
+    bounds: Bounds,
+    last_seq: u64,
+    message: L3Message,
+) -> Turn
     requires { ⌜ Ready (now rows) (book .rows) (book .rules .«max_orders») ⌝ }
+    requires { ⌜ Indexed (now places) bounds (rowsOf (now rows) (book .rows)) ⌝ }
     ensures { λ r. ⌜ TurnsFor (turnRefusal (book .rules) (lineOf (rowsOf (now (rows .entry)) (book .rows))) «last_seq» message) (eventDeed (rowsOf (now (rows .entry)) (book .rows)) (message .sequence) (message .event)) (now (rows .entry)) (book .rows) r ⌝ }
 {
     let seq = message.sequence;
@@ -142,7 +152,7 @@ fn take_turn(book: BookReconstructor, rows: &[u64], last_seq: u64, message: L3Me
     }
     let rules = book.rules;
     let event = message.event;
-    match reconstructor_plan::plan_event(rules, rows, book.rows, seq, event) {
+    match reconstructor_plan::plan_event(rules, rows, book.rows, places, bounds, seq, event) {
         Planned::Plan(plan) => Turn::Plan(plan),
         Planned::Refused(d) => Turn::Broken(InvalidationKind::Discrepancy(d)),
     }
@@ -181,14 +191,17 @@ fn commit(book: BookReconstructor, rows: &mut [u64], plan: Plan, seq: u64) -> Re
 fn apply_valid(
     book: BookReconstructor,
     rows: &mut [u64],
+    places: &[u16],
+    bounds: Bounds,
     last_seq: u64,
     message: L3Message,
 ) -> Reply
     requires { ⌜ Ready (now rows) (book .rows) (book .rules .«max_orders») ⌝ }
+    requires { ⌜ Indexed (now places) bounds (rowsOf (now rows) (book .rows)) ⌝ }
     ensures { λ r. ⌜ core r (now (rows .exit)) ≡ turned book (now (rows .entry)) «last_seq» message ⌝ }
 {
     let seq = message.sequence;
-    match take_turn(book, rows, last_seq, message) {
+    match take_turn(book, rows, places, bounds, last_seq, message) {
         Turn::Plan(plan) => commit(book, rows, plan, seq),
         Turn::Broken(kind) => invalidated(book, last_seq, seq, kind),
     }
@@ -220,7 +233,32 @@ fn record_answer(segments: &mut [u64], count: usize, answer: ApplyAnswer, messag
     reconstructor_segments::set_segment(segments, at, next)
 }
 
-// `apply` of a state that passes 1, 2 and 3, without testing them again. It leaves such a state (`usable-kept`), so that a replay tests once.
+// `apply` of a state that passes 1, 2 and 3, without testing them again, with an index of its rows. It leaves such a state (`usable-kept`), and an index that
+// foresaw the message is one of the rows afterwards (`indexed-kept`), so that a replay tests once.
+pub fn apply_indexed(
+    book: BookReconstructor,
+    rows: &mut [u64],
+    segments: &mut [u64],
+    places: &[u16],
+    bounds: Bounds,
+    message: L3Message,
+) -> Reply
+    requires { ⌜ Usable ceiling book (now rows) (now segments) ⌝ }
+    requires { ⌜ Indexed (now places) bounds (rowsOf (now rows) (book .rows)) ⌝ }
+    ensures { λ r. ⌜ leaves r (now (rows .exit)) (now (segments .exit)) ≡ applied ceiling book (now (rows .entry)) (now (segments .entry)) message ⌝ }
+{
+    match admit(book, message) {
+        Admitted::Stop(answer) => refused(book, answer),
+        Admitted::Go { last_seq } => {
+            let reply = apply_valid(book, rows, places, bounds, last_seq, message);
+            let answer = reply.answer;
+            record_answer(segments, book.segments, answer, message);
+            reply
+        }
+    }
+}
+
+// The same without an index.
 pub fn apply_trusted(
     book: BookReconstructor,
     rows: &mut [u64],
@@ -230,15 +268,8 @@ pub fn apply_trusted(
     requires { ⌜ Usable ceiling book (now rows) (now segments) ⌝ }
     ensures { λ r. ⌜ leaves r (now (rows .exit)) (now (segments .exit)) ≡ applied ceiling book (now (rows .entry)) (now (segments .entry)) message ⌝ }
 {
-    match admit(book, message) {
-        Admitted::Stop(answer) => refused(book, answer),
-        Admitted::Go { last_seq } => {
-            let reply = apply_valid(book, rows, last_seq, message);
-            let answer = reply.answer;
-            record_answer(segments, book.segments, answer, message);
-            reply
-        }
-    }
+    let places = [0u16; 0];
+    apply_indexed(book, rows, segments, &places, Bounds::none(), message)
 }
 
 // Applies the next message to a book. Nothing but the counts that 01 names changes unless every check passes.

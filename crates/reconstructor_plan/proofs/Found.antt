@@ -1,25 +1,30 @@
 -- A search of the rows, as the rules see it.
 -- Assumes nothing.
-use Prim.Native.Nat.{ℕ}
+use Prim.Native.Nat.{ℕ, _<_}
 use mathlib.Core.Path.{_≡_, refl, sym, ap, _∙_}
-use borrow.Author.Tests.{eqb-true}
-use lib.Dec.{eqb}
-use mathlib.Core.Bool.{Bool, true, false, cond}
+use native.Mathlib.Omega.{arith}
+use borrow.Author.Tests.{eqb-true, lt-leb}
+use lib.Dec.{eqb, leb}
+use mathlib.Core.Bool.{Bool, true, false, not, _&&_, cond}
 use mathlib.Core.List.{List}
 use mathlib.Core.Option.{none, some}
 use lib.ListN.{length}
+use Rattle.message.specs.declared.L3Side.{L3Side}
 use Rattle.message.specs.declared.OrderId.{OrderId}
 use Rattle.book.specs.declared.Found.{Found}
 use Rattle.book.specs.declared.Found.the-variants.{At, Nothing}
 use Rattle.book.specs.declared.Resting.{Resting}
-use Rattle.book.specs.Line.{find, present, rests}
+use Rattle.book.specs.Line.{find, present, rests, hasLevel, levels}
 use Rattle.book.specs.declared.Decrease.{Decrease}
 use Rattle.book.specs.Rows.{rowAt, rowsOf, lineOf, entryOf, findRow, cutRows}
 use Rattle.reconstructor_counts.specs.declared.Counter.{Counter}
+use Rattle.reconstructor_state.specs.declared.VenueRules.{VenueRules}
 use Rattle.reconstructor_answers.specs.declared.Applied.the-variants.{BookChanged}
 use Rattle.reconstructor_plan.specs.declared.Plan.the-variants.{Reduce, Remove}
+use Rattle.reconstructor_plan.specs.Rules.{noRoom}
 use Rattle.reconstructor_plan.specs.Plans.{deedOf, cutPlan, PlanFits}
 use Rattle.book.proofs.Rows.{length-rows}
+use Rattle.book.proofs.Moves.{levels-most}
 use Rattle.book.proofs.Kept.{length-line}
 use Rattle.book.proofs.Stored.{FoundAt, found-at, found-none}
 
@@ -38,6 +43,14 @@ module _ (ws : List ℕ) (n : ℕ) (d : OrderId) (r : Found) (e : r ≡ findRow 
 
 pub line-length : (ws : List ℕ) (n : ℕ) → length (lineOf (rowsOf ws n)) ≡ n
 line-length ws n = length-line (rowsOf ws n) ∙ length-rows ws 0 n
+
+-- fewer rows than levels permitted leave room for a level
+pub room-enough : (v : VenueRules) (ws : List ℕ) (n : ℕ) (s : L3Side) (p : ℕ) → n < v .«max_levels» → false ≡ noRoom v (lineOf (rowsOf ws n)) s p
+room-enough v ws n s p h = go (hasLevel s p (lineOf (rowsOf ws n)))
+  where
+    go : (b : Bool) → false ≡ (not b && leb (v .«max_levels») (levels (lineOf (rowsOf ws n))))
+    go true = refl
+    go false = sym (lt-leb (v .«max_levels») (levels (lineOf (rowsOf ws n))) (omega (arith, h, levels-most (lineOf (rowsOf ws n)), line-length ws n)))
 
 -- ---- a row cut to r, gone at zero
 

@@ -36,7 +36,7 @@ use Rattle.reconstructor_state.proofs.Checks.{passed}
 
 -- ---- a joined row
 
-observed-side : (s : L3Side) → sideOf (observedKind s) ≡ s
+pub observed-side : (s : L3Side) → sideOf (observedKind s) ≡ s
 unfolding sideOf
 observed-side Buy = refl
 observed-side Sell = refl

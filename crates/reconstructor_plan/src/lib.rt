@@ -2,6 +2,7 @@
 use book::Decrease;
 use book::Found;
 use book::Resting;
+use book_index::Bounds;
 use message::ChangeFields;
 use message::ChangeReason;
 use message::DoneReason;
@@ -15,6 +16,7 @@ use reconstructor_counts::Counter;
 use reconstructor_state::VenueRules;
 ghost use mathlib.Core.Path.{_≡_};
 ghost use Rattle.book.specs.Rows.{Lent, rowsOf, lineOf, entryOf, observedRow};
+ghost use Rattle.book_index.specs.Index.{Indexed};
 ghost use Rattle.reconstructor_plan.specs.Rules.{entryFor, noRoom, doneDiffers, matchDiffers, isModify, changeDiffers, reasonOf};
 ghost use Rattle.reconstructor_plan.specs.Plans.{Ready, cutPlan, Plans, PlansAt, PlansAnywhere};
 
@@ -61,11 +63,14 @@ fn observed_row(id: OrderId, side: L3Side, price: u64, remaining: u64, seq: u64)
     }
 }
 
-// Whether the price has no level and no level may be added. The levels are counted only where it has none.
+// Whether the price has no level and no level may be added. There are no more levels than rows; they are counted only where that does not tell.
 fn no_room(rules: VenueRules, rows: &[u64], n: usize, side: L3Side, price: u64) -> bool
     requires { ⌜ Lent (now rows) n ⌝ }
     ensures { λ r. ⌜ r ≡ noRoom rules (lineOf (rowsOf (now (rows .entry)) n)) side price ⌝ }
 {
+    if n < rules.max_levels {
+        return false;
+    }
     if book::has_level(rows, n, side, price) {
         return false;
     }
@@ -76,6 +81,8 @@ pub fn plan_open(
     rules: VenueRules,
     rows: &[u64],
     n: usize,
+    places: &[u16],
+    bounds: Bounds,
     seq: u64,
     order_id: OrderId,
     side: L3Side,
@@ -83,9 +90,10 @@ pub fn plan_open(
     remaining: i64,
 ) -> Planned
     requires { ⌜ Ready (now rows) n (rules .«max_orders») ⌝ }
+    requires { ⌜ Indexed (now places) bounds (rowsOf (now rows) n) ⌝ }
     ensures { λ r. ⌜ Plans rules (now (rows .entry)) n seq (L3Event.Open «order_id» side price remaining) r ⌝ }
 {
-    let Found::Nothing = book::find(rows, n, order_id) else {
+    let Found::Nothing = book_index::find(rows, n, places, bounds, order_id) else {
         return Planned::Refused(Discrepancy::DuplicateOpen);
     };
     let p = message::amount::size_of(price);
@@ -96,7 +104,7 @@ pub fn plan_open(
     if q == 0 {
         return Planned::Refused(Discrepancy::InvalidValue);
     }
-    if book::would_cross(rows, n, side, p) {
+    if book_index::would_cross(rows, n, places, bounds, side, p) {
         return Planned::Refused(Discrepancy::CrossedAfterApply);
     }
     if n >= rules.max_orders {
@@ -119,6 +127,8 @@ fn done_differs(order: Resting, side: L3Side, price: OptionalAmount) -> bool
 pub fn plan_done(
     rows: &[u64],
     n: usize,
+    places: &[u16],
+    bounds: Bounds,
     order_id: OrderId,
     side: L3Side,
     price: OptionalAmount,
@@ -126,10 +136,11 @@ pub fn plan_done(
     remaining: OptionalAmount,
 ) -> Planned
     requires { ⌜ Lent (now rows) n ⌝ }
+    requires { ⌜ Indexed (now places) bounds (rowsOf (now rows) n) ⌝ }
     ensures { λ r. ⌜ PlansAnywhere (now (rows .entry)) n (L3Event.Done «order_id» side price reason remaining) r ⌝ }
 {
     // An order that is not on the book was received and never opened, or is already fully matched: no visible effect.
-    let Found::At(at) = book::find(rows, n, order_id) else {
+    let Found::At(at) = book_index::find(rows, n, places, bounds, order_id) else {
         return Planned::Plan(Plan::NoEffect(Counter::OffBookDone));
     };
     let order = book::get_row(rows, at);
@@ -177,6 +188,8 @@ fn match_differs(maker: Resting, side: L3Side, price: i64) -> bool
 pub fn plan_match(
     rows: &[u64],
     n: usize,
+    places: &[u16],
+    bounds: Bounds,
     maker_id: OrderId,
     taker_id: OrderId,
     side: L3Side,
@@ -184,13 +197,14 @@ pub fn plan_match(
     size: i64,
 ) -> Planned
     requires { ⌜ Lent (now rows) n ⌝ }
+    requires { ⌜ Indexed (now places) bounds (rowsOf (now rows) n) ⌝ }
     ensures { λ r. ⌜ PlansAnywhere (now (rows .entry)) n (L3Event.Match «maker_id» «taker_id» side price size) r ⌝ }
 {
     // The taker is looked at first.
-    let Found::Nothing = book::find(rows, n, taker_id) else {
+    let Found::Nothing = book_index::find(rows, n, places, bounds, taker_id) else {
         return Planned::Refused(Discrepancy::TakerResting);
     };
-    let Found::At(at) = book::find(rows, n, maker_id) else {
+    let Found::At(at) = book_index::find(rows, n, places, bounds, maker_id) else {
         return Planned::Refused(Discrepancy::UnknownMaker);
     };
     let maker = book::get_row(rows, at);
@@ -247,6 +261,8 @@ fn reason_of(new_funds: OptionalAmount) -> MalformedReason
 pub fn plan_change(
     rows: &[u64],
     n: usize,
+    places: &[u16],
+    bounds: Bounds,
     seq: u64,
     order_id: OrderId,
     side: L3Side,
@@ -254,10 +270,11 @@ pub fn plan_change(
     fields: ChangeFields,
 ) -> Planned
     requires { ⌜ Lent (now rows) n ⌝ }
+    requires { ⌜ Indexed (now places) bounds (rowsOf (now rows) n) ⌝ }
     ensures { λ r. ⌜ PlansAt (now (rows .entry)) n seq (L3Event.Change «order_id» side reason (fields .price) (fields .«old_size») (fields .«new_size») (fields .«old_price») (fields .«new_price») (fields .«new_funds»)) r ⌝ }
 {
     // An order that is not on the book was received and never opened, such as a market order: no visible effect.
-    let Found::At(at) = book::find(rows, n, order_id) else {
+    let Found::At(at) = book_index::find(rows, n, places, bounds, order_id) else {
         return Planned::Plan(Plan::NoEffect(Counter::OffBookChange));
     };
     let order = book::get_row(rows, at);
@@ -290,8 +307,17 @@ pub fn plan_change(
 }
 
 // Checks an event against the rows and finds its effect, changing nothing.
-pub fn plan_event(rules: VenueRules, rows: &[u64], n: usize, seq: u64, event: L3Event) -> Planned
+pub fn plan_event(
+    rules: VenueRules,
+    rows: &[u64],
+    n: usize,
+    places: &[u16],
+    bounds: Bounds,
+    seq: u64,
+    event: L3Event,
+) -> Planned
     requires { ⌜ Ready (now rows) n (rules .«max_orders») ⌝ }
+    requires { ⌜ Indexed (now places) bounds (rowsOf (now rows) n) ⌝ }
     ensures { λ r. ⌜ Plans rules (now (rows .entry)) n seq event r ⌝ }
 {
     match event {
@@ -301,21 +327,52 @@ pub fn plan_event(rules: VenueRules, rows: &[u64], n: usize, seq: u64, event: L3
             side,
             price,
             remaining,
-        } => plan_open(rules, rows, n, seq, order_id, side, price, remaining),
+        } => plan_open(
+            rules,
+            rows,
+            n,
+            places,
+            bounds,
+            seq,
+            order_id,
+            side,
+            price,
+            remaining,
+        ),
         L3Event::Done {
             order_id,
             side,
             price,
             reason,
             remaining,
-        } => plan_done(rows, n, order_id, side, price, reason, remaining),
+        } => plan_done(
+            rows,
+            n,
+            places,
+            bounds,
+            order_id,
+            side,
+            price,
+            reason,
+            remaining,
+        ),
         L3Event::Match {
             maker_id,
             taker_id,
             side,
             price,
             size,
-        } => plan_match(rows, n, maker_id, taker_id, side, price, size),
+        } => plan_match(
+            rows,
+            n,
+            places,
+            bounds,
+            maker_id,
+            taker_id,
+            side,
+            price,
+            size,
+        ),
         L3Event::Change {
             order_id,
             side,
@@ -335,7 +392,7 @@ pub fn plan_event(rules: VenueRules, rows: &[u64], n: usize, seq: u64, event: L3
                 new_price,
                 new_funds,
             };
-            plan_change(rows, n, seq, order_id, side, reason, fields)
+            plan_change(rows, n, places, bounds, seq, order_id, side, reason, fields)
         }
         L3Event::Unsupported { .. } => Planned::Refused(Discrepancy::UnsupportedInput),
     }

@@ -47,6 +47,23 @@ pub fn apply(state: &mut [u64], rows: &mut [u64], segments: &mut [u64], message:
     )
 }
 
+/// Applies messages, handed over as their words one behind the other, in turn: the number of each goes into a word of `answers`.
+pub fn replay(
+    state: &mut [u64],
+    rows: &mut [u64],
+    segments: &mut [u64],
+    messages: &[u64],
+    answers: &mut [u64],
+) -> u64 {
+    sys::replay(
+        &mut lend::write(state),
+        &mut lend::write(rows),
+        &mut lend::write(segments),
+        &lend::read(messages),
+        &mut lend::write(answers),
+    )
+}
+
 /// Loads a snapshot piece.
 pub fn bootstrap(state: &mut [u64], rows: &mut [u64], segments: &mut [u64], bytes: &[u8]) -> u64 {
     sys::bootstrap(

@@ -8,15 +8,15 @@ use Rattle.reconstructor.proofs.apply_valid.Tie as tie
 commit-requires : tie.Need-commit-requires
 commit-requires c κs =
     let k-take-turn = c .before .before .before .before in
-    let k-start = k-take-turn .before .before .before in
-    (k-start .pre, (rw (c .before .before .plan .given .1) at (k-take-turn .take-turn .ensures)) .2)
+    let k-start = k-take-turn .before .before .before .before in
+    (k-start .pre .0, (rw (c .before .before .plan .given .1) at (k-take-turn .take-turn .ensures)) .2)
 
 returns : tie.Need-returns
 unfolding settled
 returns c =
     let k-plan = c .before .before .before .before .before in
     let k-take-turn = k-plan .before .before in
-    let k-start = k-take-turn .before .before .before in
+    let k-start = k-take-turn .before .before .before .before in
     let a = k-start .args in
     let h = rw (k-plan .plan .given .1) at (k-take-turn .take-turn .ensures) in
     rw (h .0) (c .before .before .commit .ensures ∙ ap (accepted (a .book) (a .rows .now) (a .message .sequence)) (h .1))
@@ -25,7 +25,7 @@ returns-2 : tie.Need-returns-2
 unfolding settled
 returns-2 c =
     let k-take-turn = c .before .before .before .before in
-    let k-start = k-take-turn .before .before .before in
+    let k-start = k-take-turn .before .before .before .before in
     let a = k-start .args in
     let h = rw (c .before .before .kind .given .1) at (k-take-turn .take-turn .ensures) in
     rw h (ap (λ (r : Reply). core r (a .rows .now)) (c .invalidated .ensures))

@@ -18,19 +18,19 @@ returns-2 c =
 
 returns-3 : tie.Need-returns-3
 returns-3 c =
-    let k-start = c .before .before .before .before .before in
+    let k-start = c .before .before .before .before .before .before in
     rw (c .before .before .event2 .given .1) (c .plan-done .ensures (k-start .args .rules) (k-start .args .seq))
 
 returns-4 : tie.Need-returns-4
 returns-4 c =
-    let k-start = c .before .before .before .before .before in
+    let k-start = c .before .before .before .before .before .before in
     let p : toZ w64 (ofZ w64 (c .before .before .event3 .given .0 .1 .1 .1 .0)) ≡ c .before .before .event3 .given .0 .1 .1 .1 .0 = search needs in
     let q : toZ w64 (ofZ w64 (c .before .before .event3 .given .0 .1 .1 .1 .1 .0)) ≡ c .before .before .event3 .given .0 .1 .1 .1 .1 .0 = search needs in
     rw (c .before .before .event3 .given .1) (rw (p, q) at (c .plan-match .ensures (k-start .args .rules) (k-start .args .seq)))
 
 returns-5 : tie.Need-returns-5
 returns-5 c =
-    let k-start = c .before .before .before .before .before in
+    let k-start = c .before .before .before .before .before .before in
     rw (c .before .before .event4 .given .1) (c .plan-change .ensures (k-start .args .rules))
 
 returns-6 : tie.Need-returns-6

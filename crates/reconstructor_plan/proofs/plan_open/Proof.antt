@@ -17,7 +17,7 @@ returns-2 : tie.Need-returns-2
 unfolding eventRefusal openRefusal eventDeed effect counterOf
 returns-2 c =
     let k-find = c .before .before .before .before in
-    let k-start = k-find .before .before in
+    let k-start = k-find .before .before .before in
     let p = sized _ (c .before .size-of .ensures) (k-start .fits .price) in
     rw (no-row _ _ _ _ (k-find .find .ensures) (c .before .before .enum-told .given .1), ← p) (search links depth 20)
 
@@ -27,7 +27,7 @@ returns-3 c =
     let k-size-of = c .before .before .before in
     let k-enum-told = k-size-of .before in
     let k-find = k-enum-told .before .before in
-    let k-start = k-find .before .before in
+    let k-start = k-find .before .before .before in
     let p = sized _ (k-size-of .size-of .ensures) (k-start .fits .price) in
     let q = sized _ (c .before .size-of2 .ensures) (k-start .fits .remaining) in
     rw (no-row _ _ _ _ (k-find .find .ensures) (k-enum-told .enum-told .given .1), ← p, ← q) (search links depth 20)
@@ -39,7 +39,7 @@ returns-4 c =
     let k-size-of = k-size-of2 .before .before in
     let k-enum-told = k-size-of .before in
     let k-find = k-enum-told .before .before in
-    let k-start = k-find .before .before in
+    let k-start = k-find .before .before .before in
     let p = sized _ (k-size-of .size-of .ensures) (k-start .fits .price) in
     let q = sized _ (k-size-of2 .size-of2 .ensures) (k-start .fits .remaining) in
     rw (no-row _ _ _ _ (k-find .find .ensures) (k-enum-told .enum-told .given .1), ← p, ← q) (search links depth 20)
@@ -54,7 +54,7 @@ returns-5 c =
     let k-size-of = k-if1 .before in
     let k-enum-told = k-size-of .before in
     let k-find = k-enum-told .before .before in
-    let k-start = k-find .before .before in
+    let k-start = k-find .before .before .before in
     let p = sized _ (k-size-of .size-of .ensures) (k-start .fits .price) in
     let q = sized _ (k-size-of2 .size-of2 .ensures) (k-start .fits .remaining) in
     rw (no-row _ _ _ _ (k-find .find .ensures) (k-enum-told .enum-told .given .1), ← p, ← q, line-length (k-start .args .rows .now) (k-start .args .n))
@@ -71,7 +71,7 @@ returns-6 c =
     let k-size-of = k-if1 .before in
     let k-enum-told = k-size-of .before in
     let k-find = k-enum-told .before .before in
-    let k-start = k-find .before .before in
+    let k-start = k-find .before .before .before in
     let p = sized _ (k-size-of .size-of .ensures) (k-start .fits .price) in
     let q = sized _ (k-size-of2 .size-of2 .ensures) (k-start .fits .remaining) in
     rw (no-row _ _ _ _ (k-find .find .ensures) (k-enum-told .enum-told .given .1), ← p, ← q, line-length (k-start .args .rows .now) (k-start .args .n))
@@ -89,11 +89,11 @@ returns-7 c =
     let k-size-of = k-if1 .before in
     let k-enum-told = k-size-of .before in
     let k-find = k-enum-told .before .before in
-    let k-start = k-find .before .before in
+    let k-start = k-find .before .before .before in
     let p = sized _ (k-size-of .size-of .ensures) (k-start .fits .price) in
     let q = sized _ (k-size-of2 .size-of2 .ensures) (k-start .fits .remaining) in
     rw (no-row _ _ _ _ (k-find .find .ensures) (k-enum-told .enum-told .given .1), ← p, ← q, line-length (k-start .args .rows .now) (k-start .args .n), c .observed-row .ensures)
-    (goes-on _ _ _ _ (refl) (goes-on _ _ _ _ (ne-eqb _ _ (k-if1 .if1 .left)) (goes-on _ _ _ _ (ne-eqb _ _ (k-if2 .if2 .left)) (goes-on _ _ _ _ (told-false (k-would-cross .would-cross .ensures) (k-if3 .if3 .left)) (goes-on _ _ _ _ (lt-leb _ _ (k-if4 .if4 .left)) (goes-on _ _ _ _ (told-false (c .before .before .no-room .ensures) (c .before .if5 .left)) (refl)))))), refl, (omega (arith, k-start .pre .room, k-if4 .if4 .left), omega (arith, k-start .pre .small, k-if4 .if4 .left)))
+    (goes-on _ _ _ _ (refl) (goes-on _ _ _ _ (ne-eqb _ _ (k-if1 .if1 .left)) (goes-on _ _ _ _ (ne-eqb _ _ (k-if2 .if2 .left)) (goes-on _ _ _ _ (told-false (k-would-cross .would-cross .ensures) (k-if3 .if3 .left)) (goes-on _ _ _ _ (lt-leb _ _ (k-if4 .if4 .left)) (goes-on _ _ _ _ (told-false (c .before .before .no-room .ensures) (c .before .if5 .left)) (refl)))))), refl, (omega (arith, k-start .pre .0 .room, k-if4 .if4 .left), omega (arith, k-start .pre .0 .small, k-if4 .if4 .left)))
 
 pub plan-open-spec : {M : Type 1} → statement M
 plan-open-spec =

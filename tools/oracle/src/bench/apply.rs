@@ -1,10 +1,11 @@
-//! Nanoseconds a message: the port's `apply`, the Rust's, and the Rust's followed by `audit()`, on the same messages.
+//! Nanoseconds a message at the venue's mix: the port's `apply` and its replay of a run of messages, the Rust's `apply`, and that followed by `audit()`, on the
+//! same messages.
 
 use std::hint::black_box;
 use std::time::Instant;
 
+use super::ROUNDS;
 use super::books::{self, Ours, PRODUCT, SIZE};
-use super::{ROUNDS, SIZES};
 use crate::generate::random::Random;
 use crate::l3::message::L3Message;
 use crate::piece::{
@@ -12,6 +13,9 @@ use crate::piece::{
 };
 use crate::reader::message_words;
 use crate::rust::convert;
+
+/// The messages of a run: 66 cycles.
+pub const MESSAGES: usize = 990;
 
 #[derive(Clone, Copy)]
 struct Resting {
@@ -21,10 +25,40 @@ struct Resting {
     size: i64,
 }
 
-/// Bids stand at 1 to 64, asks at 101 to 164.
+/// What a message does.
+#[derive(Clone, Copy)]
+enum Kind {
+    Open,
+    Partial,
+    Full,
+    Cancel,
+    Change,
+}
+
+/// One cycle of the mix: 5 opens, 3 partial and 2 full matches, 3 cancels and 2 changes, in such an order that the book holds as many orders afterwards and
+/// never more.
+const CYCLE: [Kind; 15] = [
+    Kind::Cancel,
+    Kind::Open,
+    Kind::Partial,
+    Kind::Full,
+    Kind::Open,
+    Kind::Change,
+    Kind::Cancel,
+    Kind::Open,
+    Kind::Partial,
+    Kind::Full,
+    Kind::Open,
+    Kind::Change,
+    Kind::Cancel,
+    Kind::Open,
+    Kind::Partial,
+];
+
+/// Bids stand at 1 to 64, asks at 65 to 128.
 fn order(random: &mut Random) -> Resting {
     let level = 1 + random.below(64) as i64;
-    let (side, price) = random.pick(&[(Side::Buy, level), (Side::Sell, 100 + level)]);
+    let (side, price) = random.pick(&[(Side::Buy, level), (Side::Sell, 64 + level)]);
     Resting {
         id: u128::from(random.word()) << 64 | u128::from(random.word()),
         side,
@@ -51,79 +85,121 @@ fn snapshot(resting: &[Resting]) -> Snapshot {
     }
 }
 
-/// One order comes and one leaves, wherever they stand; between them one is matched and one gets smaller.
-fn cycle(random: &mut Random, resting: &mut Vec<Resting>) -> [Event; 5] {
-    let new = order(random);
-    resting.push(new);
-    let any = |random: &mut Random, n: usize| random.below(n as u64) as usize;
-    let maker = any(random, resting.len());
-    resting[maker].size -= 1;
-    let maker = resting[maker];
-    let changed = any(random, resting.len());
-    let old = resting[changed];
-    resting[changed].size -= 1;
-    let place = any(random, resting.len());
-    let gone = resting.swap_remove(place);
-    let (order_id, side) = (new.id, new.side);
-    [
-        Event::Received { order_id, side },
-        Event::Open {
-            order_id,
-            side,
-            price: new.price,
-            remaining: new.size,
-        },
-        Event::Match {
-            maker_id: maker.id,
-            taker_id: 1,
-            side: maker.side,
-            price: maker.price,
-            size: 1,
-        },
-        Event::Change {
-            order_id: old.id,
-            side: old.side,
-            reason: ChangeReason::Stp,
-            price: Some(old.price),
-            old_size: Some(old.size),
-            new_size: Some(old.size - 1),
-            old_price: None,
-            new_price: None,
-            new_funds: None,
-        },
-        Event::Done {
-            order_id: gone.id,
-            side: gone.side,
-            price: Some(gone.price),
-            reason: DoneReason::Canceled,
-            remaining: Some(gone.size),
-        },
-    ]
+fn matched(random: &mut Random, maker: Resting, size: i64) -> Event {
+    Event::Match {
+        maker_id: maker.id,
+        taker_id: u128::from(random.word()) << 64 | u128::from(random.word()),
+        side: maker.side,
+        price: maker.price,
+        size,
+    }
+}
+
+/// The event of a kind, on an order drawn at random wherever it stands.
+fn event(random: &mut Random, resting: &mut Vec<Resting>, kind: Kind) -> Event {
+    let place = random.below(resting.len().max(1) as u64) as usize;
+    match kind {
+        Kind::Open => {
+            let new = order(random);
+            resting.push(new);
+            Event::Open {
+                order_id: new.id,
+                side: new.side,
+                price: new.price,
+                remaining: new.size,
+            }
+        }
+        Kind::Partial => {
+            resting[place].size -= 1;
+            matched(random, resting[place], 1)
+        }
+        Kind::Full => {
+            let gone = resting.swap_remove(place);
+            matched(random, gone, gone.size)
+        }
+        Kind::Cancel => {
+            let gone = resting.swap_remove(place);
+            Event::Done {
+                order_id: gone.id,
+                side: gone.side,
+                price: Some(gone.price),
+                reason: DoneReason::Canceled,
+                remaining: Some(gone.size),
+            }
+        }
+        Kind::Change => {
+            let old = resting[place];
+            resting[place].size -= 1;
+            Event::Change {
+                order_id: old.id,
+                side: old.side,
+                reason: ChangeReason::Stp,
+                price: Some(old.price),
+                old_size: Some(old.size),
+                new_size: Some(old.size - 1),
+                old_price: None,
+                new_price: None,
+                new_funds: None,
+            }
+        }
+    }
+}
+
+/// A snapshot of so many orders, and a run of messages on it.
+pub fn venue(size: usize) -> (Snapshot, Vec<Message>) {
+    let mut random = Random::new(7);
+    let mut resting: Vec<Resting> = (0..size).map(|_| order(&mut random)).collect();
+    let snapshot = snapshot(&resting);
+    let kinds = CYCLE.into_iter().cycle().take(MESSAGES);
+    let message = |(place, kind)| Message {
+        product: PRODUCT,
+        sequence: place,
+        time_us: place,
+        event: event(&mut random, &mut resting, kind),
+    };
+    let messages = (1..).zip(kinds).map(message).collect();
+    (snapshot, messages)
 }
 
 /// The best round's nanoseconds a message; `fresh` makes the book of a round, outside the measured time.
-fn best<B, M>(messages: &[M], fresh: impl Fn() -> B, mut apply: impl FnMut(&mut B, &M)) -> f64 {
+fn best<B>(fresh: impl Fn() -> B, mut work: impl FnMut(&mut B)) -> f64 {
     let round = |_| {
         let mut book = fresh();
         let start = Instant::now();
-        for message in messages {
-            apply(black_box(&mut book), message);
-        }
-        start.elapsed().as_nanos() as f64 / messages.len() as f64
+        work(black_box(&mut book));
+        start.elapsed().as_nanos() as f64 / MESSAGES as f64
     };
     (0..ROUNDS).map(round).fold(f64::INFINITY, f64::min)
 }
 
-fn ours(piece: &[u8], messages: &[Message]) -> f64 {
+fn loaded(snapshot: &Snapshot) -> Ours {
+    let mut book = Ours::fresh();
+    assert_eq!(book.bootstrap(&encode_snapshot(snapshot)), 0);
+    book
+}
+
+fn applied(snapshot: &Snapshot, messages: &[Message]) -> f64 {
     let words: Vec<Vec<u64>> = messages.iter().map(message_words).collect();
-    let fresh = || {
-        let mut book = Ours::fresh();
-        assert_eq!(book.bootstrap(piece), 0);
-        book
-    };
-    best(&words, fresh, |book, message| {
-        assert_eq!(book.apply(message) % 256, 0);
-    })
+    best(
+        || loaded(snapshot),
+        |book| {
+            for message in &words {
+                assert_eq!(book.apply(message), 256);
+            }
+        },
+    )
+}
+
+fn replayed(snapshot: &Snapshot, messages: &[Message]) -> f64 {
+    let words: Vec<u64> = messages.iter().flat_map(message_words).collect();
+    let mut answers = vec![0; messages.len()];
+    best(
+        || loaded(snapshot),
+        |book| {
+            assert_eq!(book.replay(&words, &mut answers), 0);
+            assert!(answers.iter().all(|&answer| answer == 256));
+        },
+    )
 }
 
 fn theirs(snapshot: &Snapshot, messages: &[Message], audited: bool) -> f64 {
@@ -134,37 +210,23 @@ fn theirs(snapshot: &Snapshot, messages: &[Message], audited: bool) -> f64 {
         book.bootstrap(&snapshot).expect("the snapshot is sound");
         book
     };
-    best(&messages, fresh, |book, message| {
-        assert!(book.apply(message).is_ok());
-        assert!(!audited || book.audit().is_ok());
+    best(fresh, |book| {
+        for message in &messages {
+            assert!(book.apply(message).is_ok());
+            assert!(!audited || book.audit().is_ok());
+        }
     })
 }
 
 pub fn run() {
-    println!("|resting orders|ours, ns|apply, ns|ratio|apply and audit(), ns|ratio|");
-    println!("|-|-|-|-|-|-|");
-    for size in SIZES {
-        let mut random = Random::new(7);
-        // One less, since a cycle opens an order before one leaves.
-        let mut resting: Vec<Resting> = (1..size).map(|_| order(&mut random)).collect();
-        let snapshot = snapshot(&resting);
-        let events = (0..100).flat_map(|_| cycle(&mut random, &mut resting));
-        let message = |(place, event)| Message {
-            product: PRODUCT,
-            sequence: place,
-            time_us: place,
-            event,
-        };
-        let messages: Vec<Message> = (1..).zip(events).map(message).collect();
-        let ours = ours(&encode_snapshot(&snapshot), &messages);
-        let (plain, audited) = (
+    println!("|orders|replay|apply|rust|rust+audit|replay/rust|apply/(rust+audit)");
+    for size in [10, 100, 512, 1_000, 4_096] {
+        let (snapshot, messages) = venue(size);
+        let (a, r) = (applied(&snapshot, &messages), replayed(&snapshot, &messages));
+        let (t, u) = (
             theirs(&snapshot, &messages, false),
             theirs(&snapshot, &messages, true),
         );
-        println!(
-            "|{size}|{ours:.0}|{plain:.0}|{:.1}|{audited:.0}|{:.2}|",
-            ours / plain,
-            ours / audited
-        );
+        println!("|{size}|{r:.0}|{a:.0}|{t:.0}|{u:.0}|{:.2}|{:.2}|", r / t, a / u);
     }
 }

@@ -39,6 +39,15 @@ impl Ours {
         port::bootstrap(&mut self.block, &mut self.rows, &mut self.segments, piece)
     }
 
+    pub fn replay(&mut self, messages: &[u64], answers: &mut [u64]) -> u64 {
+        let Ours {
+            block,
+            rows,
+            segments,
+        } = self;
+        port::replay(block, rows, segments, messages, answers)
+    }
+
     pub fn apply(&mut self, message: &[u64]) -> u64 {
         port::apply(&mut self.block, &mut self.rows, &mut self.segments, message)
     }

@@ -1,0 +1,26 @@
+use borrow.Author.Needs.{needs}
+use Rattle.book_index.specs.Index.{markedAt}
+use Rattle.book_index.proofs.Index.{set-none}
+use Rattle.book_index.proofs.mark.Statement.{statement}
+use Rattle.book_index.proofs.mark.Tie as tie
+
+returns : tie.Need-returns
+unfolding markedAt
+returns c = rw (c .bucket-of .ensures .0)
+
+returns-2 : tie.Need-returns-2
+unfolding markedAt
+returns-2 c = set-none (c .before .before .args .places .now) _ _ (c .if1 .left)
+
+pub mark-spec : {M : Type 1} → statement M
+mark-spec =
+    tie.close
+    (tie.spec
+    (λ c κs. search needs)
+    (λ c. search needs)
+    (λ c. search needs)
+    (λ c. search needs)
+    (λ c. search needs)
+    (λ c. search needs)
+    returns
+    returns-2)

@@ -1,0 +1,187 @@
+-- A run, message by message: each is a call of `pinuglaw_apply`, and the state and the index go on.
+-- Assumes nothing.
+use Prim.Native.Nat.{ℕ, zero, suc, _+_, _*_, _-_, _≤_, _<_}
+use mathlib.Core.Path.{_≡_, refl, sym, subst, ap, _∙_}
+use mathlib.Core.Bool.{Bool, true, false, _||_}
+use mathlib.Core.List.{List, [], _∷_, _++_, append-assoc}
+use native.Mathlib.Nat.{add-zero, zero-add}
+use native.Mathlib.Numerals.{add-one}
+use native.Mathlib.Omega.{arith}
+use borrow.Author.Tests.{le-ltb}
+use lib.Dec.{ltb}
+use lib.ListN.{length, set, take, drop, length-drop, length-set, take-append-drop}
+use lib.Seq.{take-all, take-suc-set, drop-set-lt, drop-drop}
+use Rattle.message.specs.declared.L3Message.{L3Message}
+use Rattle.book.specs.declared.Resting.{Resting}
+use Rattle.book.specs.Rows.{ceiling, rowsOf, Lent}
+use Rattle.book_index.specs.declared.Bounds.{Bounds}
+use Rattle.book_index.specs.Index.{rowMarked, rowBounded, all, Indexed, Foreseen, noted}
+use Rattle.reconstructor_state.specs.declared.BookReconstructor.{BookReconstructor}
+use Rattle.reconstructor.specs.declared.Reply.{Reply}
+use Rattle.reconstructor.specs.Applied.{Parts, leaves, applied}
+use Rattle.reconstructor_answers.specs.declared.StateError.{StateError}
+use Rattle.reconstructor_answers.specs.Numbers.{stateErrorNumber}
+use Rattle.reconstructor_checks.specs.declared.Checked.{Checked}
+use Rattle.reconstructor_checks.specs.declared.Checked.the-variants.{Passed, Refused}
+use Rattle.reconstructor_checks.specs.Own.{bookRefusal, checked, Usable}
+use Rattle.host_words.specs.Block.{bookOf, messageOf, restored, applyNumber, setsStatus}
+use Rattle.host_calls.specs.Calls.{Call, called, afterApply, applyCall}
+use Rattle.host_replay.specs.Replay.{Run, then, run, ReplayCall, replayCalled, countOf, afterRun, replayCall, Ready, Runs}
+use Rattle.reconstructor_checks.proofs.Own.{usable, sound, said, said-none}
+use Rattle.reconstructor.proofs.Laws.{trusted-ready}
+use Rattle.reconstructor.proofs.Kept.{usable-kept, indexed-kept}
+use Rattle.host_words.proofs.Lent.{lent-two}
+use Rattle.host_calls.proofs.Blocks.{applied-state}
+
+-- a usable state's rows lie in the words
+pub lent : (b : BookReconstructor) (ws sg : List ℕ) → Usable ceiling b ws sg → Lent ws (b .rows)
+lent b ws sg v =
+    let u = trusted-ready b ws sg v in
+    record { room = omega (arith, u .few, u .room); few = omega (arith, u .few, u .small) }
+
+-- what the loop carries, of the state as it was loaded
+module _ (st ws sg ps : List ℕ) (bd : Bounds) (b : BookReconstructor) (e : b ≡ bookOf st) where
+  pub loaded : Runs st ws sg ps bd → Usable ceiling b ws sg × Indexed ps bd (rowsOf ws (b .rows))
+  loaded r = (rw e (r .usable), rw e (r .index))
+
+  pub runs-start : 27 ≤ length st → Usable ceiling (bookOf st) ws sg → length ps ≤ 65536 → all (rowMarked ps) (rowsOf ws (b .rows)) ≡ true
+      → all (rowBounded bd) (rowsOf ws (b .rows)) ≡ true → Runs st ws sg ps bd
+  runs-start whole u few marks within =
+      record {
+        whole = whole;
+        usable = u;
+        index = record { few = few; marks = rw e at marks; within = rw e at within; single = sound (bookOf st) ws (u .sound) .formed .single };
+      }
+
+-- other bounds of the same orders
+pub foreseen : (ps : List ℕ) (bd nd : Bounds) (os : List Resting) → Indexed ps bd os → all (rowBounded nd) os ≡ true → Indexed ps nd os
+foreseen ps bd nd os i h = record { few = i .few; marks = i .marks; within = h; single = i .single }
+
+-- ---- a message
+
+module _ (st ws sg m : List ℕ) (r : Reply) (vs tg : List ℕ) (e : leaves r vs tg ≡ applied ceiling (bookOf st) ws sg (messageOf m)) (whole : 27 ≤ length st) where
+  applies : 21 ≤ length m → called (applyNumber (r .answer)) (restored st (setsStatus (r .answer)) (r .book)) vs tg ≡ applyCall st ws sg m
+  unfolding applyCall
+  applies full = rw (le-ltb (length st) 27 whole, le-ltb (length m) 21 full) (ap (afterApply st) e)
+
+  runs-on : (places : List ℕ) (n : ℕ) (b : Bounds) → 27 ≤ length (restored st (setsStatus (r .answer)) (r .book)) → Usable ceiling (bookOf st) ws sg
+      → Indexed places b (rowsOf ws (bookOf st .rows)) → Foreseen b (messageOf m .event) → length (noted places n (messageOf m .event)) ≡ length places
+      → Runs (restored st (setsStatus (r .answer)) (r .book)) vs tg (noted places n (messageOf m .event)) b
+  runs-on places n b long u i w l =
+      let now : bookOf (restored st (setsStatus (r .answer)) (r .book)) ≡ r .book =
+      subst (λ (p : Parts). bookOf (afterApply st p .state) ≡ p .book) (sym e) (applied-state st ws sg (messageOf m) whole) in
+      let usable : Usable ceiling (r .book) vs tg =
+      subst (λ (p : Parts). Usable ceiling (p .book) (p .rows) (p .segments)) (sym e) (usable-kept ceiling (bookOf st) ws sg u (messageOf m)) in
+      let index : Indexed (noted places n (messageOf m .event)) b (rowsOf vs (r .book .rows)) =
+      subst (λ (p : Parts). Indexed (noted places n (messageOf m .event)) b (rowsOf (p .rows) (p .book .rows))) (sym e)
+      (indexed-kept ceiling (bookOf st) ws sg (messageOf m) places b n u i w l) in
+      record { whole = long; usable = rw now usable; index = rw now index }
+
+-- the same of what the calls in the loop were seen to give
+pub message-runs : (st ws sg m ps : List ℕ) (n : ℕ) (bd : Bounds) (b : BookReconstructor) (l : L3Message) (r : Reply) (ut vs tg qs : List ℕ) (sets : Bool) (k : ℕ)
+    → b ≡ bookOf st → l ≡ messageOf m → leaves r vs tg ≡ applied ceiling b ws sg l → qs ≡ noted ps n (l .event) → sets ≡ setsStatus (r .answer)
+    → ut ≡ restored st sets (r .book) → k ≡ applyNumber (r .answer) → 27 ≤ length st → 21 ≤ length m → length ut ≡ length st → length qs ≡ length ps
+    → Usable ceiling b ws sg → Indexed ps bd (rowsOf ws (b .rows)) → Foreseen bd (l .event) → (called k ut vs tg ≡ applyCall st ws sg m) × Runs ut vs tg qs bd
+message-runs st ws sg m ps n bd b l r ut vs tg qs sets k eb el e en es eu ek whole full long same u i w =
+    let e′ = rw (eb, el) at e in
+    let long′ : 27 ≤ length (restored st (setsStatus (r .answer)) (r .book)) = rw (← es, ← eu) (omega arith) in
+    rw (ek, eu, es, en, el)
+    (applies st ws sg m r vs tg e′ whole full, runs-on st ws sg m r vs tg e′ whole ps n bd long′ (rw eb at u) (rw eb at i) (rw el at w) (rw (en, el) at same))
+
+-- ---- the loop
+
+-- what is left of the run once i answers are written: the rest of it on the words as they are now
+abbrev pub left : ℕ → List ℕ → Run → ReplayCall
+left i out r =
+    replayCalled 0 (r .state) (r .rows) (r .segments) (take i out ++ (r .numbers ++ drop (i + length (r .numbers)) out))
+
+pub left-first : (out : List ℕ) (r : Run) → afterRun out r ≡ left 0 out r
+left-first out r = rw (zero-add (length (r .numbers)))
+
+left-then : (i : ℕ) (out : List ℕ) (k : ℕ) (r : Run) → i < length out → left i out (then k r) ≡ left (i + 1) (set out i k) r
+left-then i out k r h =
+    let n = length (r .numbers) in
+    let e : i + suc n ≡ suc i + n = omega arith in
+    ap (λ (x : List ℕ). replayCalled 0 (r .state) (r .rows) (r .segments) x)
+    (rw (add-one i, take-suc-set out i k h, drop-set-lt (suc i + n) out i k (omega arith), e, append-assoc))
+
+module _ (st ws sg ms out : List ℕ) (count i k : ℕ) (ut vs tg : List ℕ) where
+  pub left-next : i < count → i < length out → called k ut vs tg ≡ applyCall st ws sg (drop (21 * i) ms)
+      → left i out (run (count - i) st ws sg (drop (21 * i) ms)) ≡ left (i + 1) (set out i k) (run (count - (i + 1)) ut vs tg (drop (21 * (i + 1)) ms))
+  unfolding run
+  left-next h q e =
+      let c : count - i ≡ suc (count - (i + 1)) = omega arith in
+      let d : drop 21 (drop (21 * i) ms) ≡ drop (21 * (i + 1)) ms =
+      drop-drop 21 (21 * i) ms ∙ ap (λ (x : ℕ). drop x ms) (let z : 21 * i + 21 ≡ 21 * (i + 1) = omega arith in z) in
+      rw (c, ← d)
+      (ap (λ (x : Call). left i out (then (x .number) (run (count - (i + 1)) (x .state) (x .rows) (x .segments) (drop 21 (drop (21 * i) ms))))) (sym e)
+      ∙ left-then i out k (run (count - (i + 1)) ut vs tg (drop 21 (drop (21 * i) ms))) q)
+
+  pub left-last : count ≤ i → left i out (run (count - i) st ws sg (drop (21 * i) ms)) ≡ replayCalled 0 st ws sg out
+  unfolding run
+  left-last h =
+      let c : count - i ≡ 0 = omega arith in
+      rw c (ap (λ (x : List ℕ). replayCalled 0 st ws sg x) (rw add-zero (take-append-drop i out)))
+
+-- a message's words are the words from there on
+pub message-at : (ms : List ℕ) (i : ℕ) → take (length ms - 21 * i) (drop (21 * i) ms) ≡ drop (21 * i) ms
+message-at ms i = take-all (length ms - 21 * i) (drop (21 * i) ms) (omega (arith, length-drop (21 * i) ms))
+
+-- what holds after i messages
+pub record Looped (st₀ ws₀ sg₀ ms out₀ ps₀ st ws sg out ps : List ℕ) (b : Bounds) (i : ℕ) : Type 0 where
+  pub few : i ≤ countOf ms
+  pub runs : Runs st ws sg ps b
+  pub state : length st ≡ length st₀
+  pub rows : length ws ≡ length ws₀
+  pub segments : length sg ≡ length sg₀
+  pub answers : length out ≡ length out₀
+  pub places : length ps ≡ length ps₀
+  pub rest : afterRun out₀ (run (countOf ms) st₀ ws₀ sg₀ ms) ≡ left i out (run (countOf ms - i) st ws sg (drop (21 * i) ms))
+
+pub loop-start : (st ws sg ms out ps : List ℕ) (b : Bounds) → Runs st ws sg ps b → Looped st ws sg ms out ps st ws sg out ps b 0
+loop-start st ws sg ms out ps b r =
+    let z : countOf ms - 0 ≡ countOf ms = omega arith in
+    let d : drop (21 * 0) ms ≡ ms = refl in
+    record {
+      few = omega arith;
+      runs = r;
+      state = refl;
+      rows = refl;
+      segments = refl;
+      answers = refl;
+      places = refl;
+      rest = rw (z, d) (left-first out (run (countOf ms) st ws sg ms));
+    }
+
+module _ (st₀ ws₀ sg₀ ms out₀ ps₀ st ws sg out ps : List ℕ) (b : Bounds) (i : ℕ) (l : Looped st₀ ws₀ sg₀ ms out₀ ps₀ st ws sg out ps b i) where
+  pub loop-next : (k : ℕ) (ut vs tg qs : List ℕ) (b′ : Bounds) → called k ut vs tg ≡ applyCall st ws sg (take (length ms - 21 * i) (drop (21 * i) ms))
+      → Runs ut vs tg qs b′ → length ut ≡ length st → length vs ≡ length ws → length tg ≡ length sg → length qs ≡ length ps → i < countOf ms
+      → countOf ms ≤ length out₀ → Looped st₀ ws₀ sg₀ ms out₀ ps₀ ut vs tg (set out i k) qs b′ (i + 1)
+  loop-next k ut vs tg qs b′ e r ht hs hg hp h q =
+      record {
+        few = omega arith;
+        runs = r;
+        state = ht ∙ l .state;
+        rows = hs ∙ l .rows;
+        segments = hg ∙ l .segments;
+        answers = length-set out i k ∙ l .answers;
+        places = hp ∙ l .places;
+        rest = l .rest ∙ left-next st ws sg ms out (countOf ms) i k ut vs tg h (omega (arith, l .answers)) (rw (message-at ms i) at e);
+      }
+
+-- ---- the call, by what the own checks of the loaded state say
+
+module _ (st ws sg ms out : List ℕ) (short : (ltb (length st) 27 || ltb (length out) (countOf ms)) ≡ false) (b : BookReconstructor) (e : b ≡ bookOf st) (k : Checked)
+    (q : k ≡ checked (bookRefusal ceiling b ws sg)) where
+  pub ready : k ≡ Passed → Ready st ws sg ms out
+  ready p =
+      let l = lent-two st 27 out (countOf ms) short in
+      record { whole = l .0; usable = rw e at (usable ceiling b ws sg (said-none _ _ q p)); answered = l .1 }
+
+  pub run-refused : (w : StateError) → k ≡ Refused w → (n : ℕ) → n ≡ stateErrorNumber w → replayCalled n st ws sg out ≡ replayCall st ws sg ms out
+  unfolding replayCall
+  run-refused w p n h = rw (short, ← e, said _ _ _ q p, h)
+
+  pub run-passed : (c : ReplayCall) → k ≡ Passed → c ≡ afterRun out (run (countOf ms) st ws sg ms) → c ≡ replayCall st ws sg ms out
+  unfolding replayCall
+  run-passed c p h = h ∙ sym (rw (short, ← e, said-none _ _ q p))

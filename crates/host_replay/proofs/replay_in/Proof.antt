@@ -1,0 +1,40 @@
+use native.Mathlib.Omega.{arith}
+use borrow.Author.Needs.{needs}
+use Rattle.host_replay.proofs.Runs.{lent, runs-start}
+use Rattle.host_replay.proofs.replay_in.Statement.{statement}
+use Rattle.host_replay.proofs.replay_in.Tie as tie
+
+mark-rows-requires : tie.Need-mark-rows-requires
+mark-rows-requires c κs =
+    let k-start = c .before .before .before .before .before .before .before .before .before .before in
+    let a = k-start .args in
+    (lent (c .before .before .load-book .result) (a .rows .now) (a .segments .now) (rw (c .before .before .load-book .ensures) (k-start .pre .0 .usable)), k-start .pre .1)
+
+bounds-of-requires : tie.Need-bounds-of-requires
+bounds-of-requires c κs =
+    let k-start = c .before .before .before .before .before .before .before .before .before .before .before .before .before .before in
+    let a = k-start .args in
+    lent (c .before .before .before .before .before .before .load-book .result) (a .rows .now) (a .segments .now) (rw (c .before .before .before .before .before .before .load-book .ensures) (k-start .pre .0 .usable))
+
+replay-from-requires : tie.Need-replay-from-requires
+replay-from-requires c κs =
+    let k-start = c .before .before .before .before .before .before .before .before .before .before .before .before .before .before .before .before .before .before .before .before in
+    let a = k-start .args in
+    let b = c .before .before .before .before .before .before .before .before .before .before .before .before .load-book in
+    let k = c .before .before .before .before .before .before .before .before .before .mark-rows in
+    (runs-start (a .state .now) (a .rows .now) (a .segments .now) _ _ (b .result) (b .ensures) (k-start .pre .0 .whole) (k-start .pre .0 .usable) (omega (arith, k .kept .1 .1 .0, k-start .pre .1)) (k .ensures) (c .before .before .before .before .before .bounds-of .ensures), k-start .pre .0 .answered)
+
+pub replay-in-spec : {M : Type 1} → statement M
+replay-in-spec =
+    tie.close
+    (tie.spec
+    (λ c κs. search needs)
+    mark-rows-requires
+    bounds-of-requires
+    replay-from-requires
+    (λ c. search needs)
+    (λ c. search needs)
+    (λ c. search needs)
+    (λ c. search needs)
+    (λ c. search needs)
+    (λ c. search needs))

@@ -1,0 +1,149 @@
+// A run of messages applied to a book whose state and messages are words. Numbers 1, 2 and 3 are tested once, and an index of the rows serves the whole run.
+use book_index::Bounds;
+use host_words::apply_number;
+use host_words::load_book;
+use host_words::load_message;
+use host_words::sets_status;
+use host_words::store_book;
+use reconstructor_checks::Checked;
+ghost use mathlib.Core.Path.{_≡_};
+ghost use Prim.Native.Nat.{_≤_};
+ghost use lib.ListN.{length};
+ghost use Rattle.host_calls.specs.Calls.{called, applyCall};
+ghost use Rattle.host_replay.specs.Replay.{run, countOf, afterRun, replayCalled, replayCall, Ready, Runs};
+
+// What a message of the run leaves beside the lent words: its number, and the bounds of the rows.
+struct Replayed {
+    number: u64,
+    bounds: Bounds,
+}
+
+// The next message of the run.
+fn replay_message(
+    state: &mut [u64],
+    rows: &mut [u64],
+    segments: &mut [u64],
+    places: &mut [u16],
+    bounds: Bounds,
+    message: &[u64],
+) -> Replayed
+    requires { ⌜ Runs (now state) (now rows) (now segments) (now places) bounds ⌝ }
+    requires { ⌜ 21 ≤ length (now message) ⌝ }
+    ensures applies { λ r. ⌜ called (r .number) (now (state .exit)) (now (rows .exit)) (now (segments .exit)) ≡ applyCall (now (state .entry)) (now (rows .entry)) (now (segments .entry)) (now (message .entry)) ⌝ }
+    ensures runs { λ r. ⌜ Runs (now (state .exit)) (now (rows .exit)) (now (segments .exit)) (now (places .exit)) (r .bounds) ⌝ }
+{
+    let book = load_book(state);
+    let message = load_message(message);
+    let event = message.event;
+    let n = book.rows;
+    let next = book_index::foresee(rows, n, bounds, event);
+    let reply = reconstructor::apply_indexed(book, rows, segments, places, next, message);
+    book_index::note(places, n, event);
+    let answer = reply.answer;
+    store_book(state, reply.book, sets_status(answer));
+    Replayed {
+        number: apply_number(answer),
+        bounds: next,
+    }
+}
+
+// The run, from an index of the rows on.
+fn replay_from(
+    state: &mut [u64],
+    rows: &mut [u64],
+    segments: &mut [u64],
+    messages: &[u64],
+    answers: &mut [u64],
+    places: &mut [u16],
+    first: Bounds,
+)
+    requires { ⌜ Runs (now state) (now rows) (now segments) (now places) first ⌝ }
+    requires { ⌜ countOf (now messages) ≤ length (now answers) ⌝ }
+    ensures { λ _. ⌜ replayCalled 0 (now (state .exit)) (now (rows .exit)) (now (segments .exit)) (now (answers .exit)) ≡ afterRun (now (answers .entry)) (run (countOf (now (messages .entry))) (now (state .entry)) (now (rows .entry)) (now (segments .entry)) (now (messages .entry))) ⌝ }
+{
+    let count = messages.len() / 21;
+    let mut bounds = first;
+    let mut i: usize = 0;
+    while i < count {
+        let at = 21 * i;
+        let done = replay_message(state, rows, segments, places, bounds, &messages[at..]);
+        answers[i] = done.number;
+        bounds = done.bounds;
+        i += 1;
+    }
+}
+
+// The run, with memory for an index of the rows.
+fn replay_in(
+    state: &mut [u64],
+    rows: &mut [u64],
+    segments: &mut [u64],
+    messages: &[u64],
+    answers: &mut [u64],
+    places: &mut [u16],
+)
+    requires { ⌜ Ready (now state) (now rows) (now segments) (now messages) (now answers) ⌝ }
+    requires { ⌜ length (now places) ≤ 65536 ⌝ }
+    ensures { λ _. ⌜ replayCalled 0 (now (state .exit)) (now (rows .exit)) (now (segments .exit)) (now (answers .exit)) ≡ afterRun (now (answers .entry)) (run (countOf (now (messages .entry))) (now (state .entry)) (now (rows .entry)) (now (segments .entry)) (now (messages .entry))) ⌝ }
+{
+    let n = load_book(state).rows;
+    book_index::mark_rows(rows, n, places);
+    let bounds = book_index::bounds_of(rows, n);
+    replay_from(state, rows, segments, messages, answers, places, bounds)
+}
+
+// The same with memory of its own, in which most ids that do not rest find no mark: little where few rows ask for it, since it is cleared at each call.
+fn replay_few(
+    state: &mut [u64],
+    rows: &mut [u64],
+    segments: &mut [u64],
+    messages: &[u64],
+    answers: &mut [u64],
+)
+    requires { ⌜ Ready (now state) (now rows) (now segments) (now messages) (now answers) ⌝ }
+    ensures { λ _. ⌜ replayCalled 0 (now (state .exit)) (now (rows .exit)) (now (segments .exit)) (now (answers .exit)) ≡ afterRun (now (answers .entry)) (run (countOf (now (messages .entry))) (now (state .entry)) (now (rows .entry)) (now (segments .entry)) (now (messages .entry))) ⌝ }
+{
+    let mut places = [0u16; 4096];
+    replay_in(state, rows, segments, messages, answers, &mut places)
+}
+
+fn replay_many(
+    state: &mut [u64],
+    rows: &mut [u64],
+    segments: &mut [u64],
+    messages: &[u64],
+    answers: &mut [u64],
+)
+    requires { ⌜ Ready (now state) (now rows) (now segments) (now messages) (now answers) ⌝ }
+    ensures { λ _. ⌜ replayCalled 0 (now (state .exit)) (now (rows .exit)) (now (segments .exit)) (now (answers .exit)) ≡ afterRun (now (answers .entry)) (run (countOf (now (messages .entry))) (now (state .entry)) (now (rows .entry)) (now (segments .entry)) (now (messages .entry))) ⌝ }
+{
+    let mut places = [0u16; 65536];
+    replay_in(state, rows, segments, messages, answers, &mut places)
+}
+
+// Applies the messages, 21 words each, in turn: as many calls of `apply`, with the number of each in a word of `answers`.
+pub fn replay(
+    state: &mut [u64],
+    rows: &mut [u64],
+    segments: &mut [u64],
+    messages: &[u64],
+    answers: &mut [u64],
+) -> u64
+    ensures { λ r. ⌜ replayCalled r (now (state .exit)) (now (rows .exit)) (now (segments .exit)) (now (answers .exit)) ≡ replayCall (now (state .entry)) (now (rows .entry)) (now (segments .entry)) (now (messages .entry)) (now (answers .entry)) ⌝ }
+{
+    if (state.len() < 27) | (answers.len() < messages.len() / 21) {
+        return 7;
+    }
+    let book = load_book(state);
+    match reconstructor_checks::own_checks(book, rows, segments) {
+        Checked::Refused(why) => why.number(),
+        Checked::Passed => {
+            if book.rows <= 256 {
+                replay_few(state, rows, segments, messages, answers);
+            } else {
+                replay_many(state, rows, segments, messages, answers);
+            }
+            0
+        }
+    }
+}
