@@ -43,6 +43,13 @@ pub fn saturating_next(x: u64) -> u64
     if x < 18446744073709551615 { x + 1 } else { x }
 }
 
+// Alters one of the lent counts in place.
+pub fn count(counts: &mut MessageCounts, which: Counter)
+    ensures { λ _. ⌜ now (counts .exit) ≡ counted (now (counts .entry)) which ⌝ }
+{
+    *counts = (*counts).raised(which);
+}
+
 impl MessageCounts {
     pub fn new() -> Self
         ensures { λ r. ⌜ r ≡ noCounts ⌝ }
@@ -63,8 +70,8 @@ impl MessageCounts {
         }
     }
 
-    // An accepted message adds one to one counter.
-    pub fn counted(mut self, which: Counter) -> Self
+    // The counts by value, with one added to the counter named: what `count` stores.
+    fn raised(mut self, which: Counter) -> Self
         ensures { λ r. ⌜ r ≡ counted self which ⌝ }
     {
         match which {
@@ -101,6 +108,15 @@ impl MessageCounts {
                 self
             }
         }
+    }
+
+    // An accepted message adds one to one counter. By value, so that no caller proves a borrow.
+    pub fn counted(self, which: Counter) -> Self
+        ensures { λ r. ⌜ r ≡ counted self which ⌝ }
+    {
+        let mut counts = self;
+        count(&mut counts, which);
+        counts
     }
 
     pub fn handshake_dropped(mut self) -> Self
