@@ -2,7 +2,7 @@
 -- words afterwards are the state that the rules leave.
 -- Assumes nothing.
 use Prim.Native.Nat.{ℕ, _≤_}
-use mathlib.Core.Path.{_≡_, refl, sym, ap, _∙_}
+use mathlib.Core.Path.{_≡_, refl, sym, ap, ap₂, _∙_}
 use mathlib.Core.Bool.{Bool, true, false, cond, _||_}
 use mathlib.Core.List.{List}
 use mathlib.Core.Option.{Option, none, some}
@@ -31,11 +31,13 @@ use Rattle.reconstructor_bootstrap.specs.declared.SnapshotAnswer.the-variants.{
 use Rattle.reconstructor_bootstrap.specs.Numbers.{snapshotNumber}
 use Rattle.reconstructor_bootstrap.specs.Snapshot.{pieceAnswer}
 use Rattle.reconstructor_bootstrap.specs.Bootstrap as boot
+use Rattle.host_records.specs.Records.{recordsOf}
 use Rattle.host_words.specs.Block.{bookOf, messageOf, restored, applyNumber, setsStatus}
 use Rattle.host_calls.specs.Calls.{Call, called, afterApply, afterBootstrap, applyCall, bootstrapCall}
 use Rattle.laws.proofs.Bools.{absurd-bool}
 use Rattle.reconstructor.proofs.Kept.{refusal-counts}
 use Rattle.reconstructor_bootstrap.proofs.Laws.{refusalOf, counts-alone}
+use Rattle.host_records.proofs.Records.{relaid-same}
 use Rattle.host_words.proofs.Blocks.{block-same, raised, raised-skipped, raised-product, raised-snapshots}
 use Rattle.host_words.proofs.RoundTrip.{block-back}
 
@@ -75,22 +77,22 @@ settled-acts b ws last m none = go (eventDeed (rowsOf ws (b .rows)) (m .sequence
     go BookChanged = refl
     go NoBookEffect = refl
 
-gated-words : (st ws sg : List ℕ) (m : L3Message) (o : Option ApplyAnswer) → 27 ≤ length st → acts (afterApply st (gated (bookOf st) ws sg m o) .number) ≡ false
-    → afterApply st (gated (bookOf st) ws sg m o) ≡ refusalLeaves (afterApply st (gated (bookOf st) ws sg m o) .number) st ws sg
+gated-words : (st ws sg : List ℕ) (m : L3Message) (o : Option ApplyAnswer) → 27 ≤ length st → acts (afterApply st sg (gated (bookOf st) ws (recordsOf sg) m o) .number) ≡ false
+    → afterApply st sg (gated (bookOf st) ws (recordsOf sg) m o) ≡ refusalLeaves (afterApply st sg (gated (bookOf st) ws (recordsOf sg) m o) .number) st ws sg
 unfolding gated refusedReply
-gated-words st ws sg m (some a) long h = ap (λ l. called (applyNumber a) l ws sg) (refused-words st a long h)
+gated-words st ws sg m (some a) long h = ap₂ (λ (l t : List ℕ). called (applyNumber a) l ws t) (refused-words st a long h) (relaid-same sg)
 gated-words st ws sg m none long h =
     let b = bookOf st in
     absurd-bool (sym (settled-acts b ws (lastOf (b .status)) m (turnRefusal (b .rules) (lineOf (rowsOf ws (b .rows))) (lastOf (b .status)) m)) ∙ h)
 
-pub applied-words : (st ws sg : List ℕ) (m : L3Message) → 27 ≤ length st → acts (afterApply st (applied ceiling (bookOf st) ws sg m) .number) ≡ false
-    → afterApply st (applied ceiling (bookOf st) ws sg m) ≡ refusalLeaves (afterApply st (applied ceiling (bookOf st) ws sg m) .number) st ws sg
+pub applied-words : (st ws sg : List ℕ) (m : L3Message) → 27 ≤ length st → acts (afterApply st sg (applied ceiling (bookOf st) ws (recordsOf sg) m) .number) ≡ false
+    → afterApply st sg (applied ceiling (bookOf st) ws (recordsOf sg) m) ≡ refusalLeaves (afterApply st sg (applied ceiling (bookOf st) ws (recordsOf sg) m) .number) st ws sg
 unfolding applied
-applied-words st ws sg m long h = gated-words st ws sg m (bookGate ceiling (bookOf st) ws sg m) long h
+applied-words st ws sg m long h = gated-words st ws sg m (bookGate ceiling (bookOf st) ws (recordsOf sg) m) long h
 
 -- the call, by what is lent
 abbrev applyBy : List ℕ → List ℕ → List ℕ → L3Message → Bool → Bool → Call
-applyBy st ws sg m x y = cond x (called 7 st ws sg) (cond y (called 7 st ws sg) (afterApply st (applied ceiling (bookOf st) ws sg m)))
+applyBy st ws sg m x y = cond x (called 7 st ws sg) (cond y (called 7 st ws sg) (afterApply st sg (applied ceiling (bookOf st) ws (recordsOf sg) m)))
 
 apply-by : (st ws sg : List ℕ) (m : L3Message) (x y : Bool) → ltb (length st) 27 ≡ x → acts (applyBy st ws sg m x y .number) ≡ false
     → applyBy st ws sg m x y ≡ refusalLeaves (applyBy st ws sg m x y .number) st ws sg
@@ -111,7 +113,7 @@ settled-state st ws last m (some k) long = block-back st true _ _ _ _ long (λ e
 settled-state st ws last m none long = block-back st true _ _ _ _ long (λ e. absurd-bool e)
 
 gated-state : (st ws sg : List ℕ) (m : L3Message) (o : Option ApplyAnswer) → 27 ≤ length st
-    → bookOf (afterApply st (gated (bookOf st) ws sg m o) .state) ≡ gated (bookOf st) ws sg m o .book
+    → bookOf (afterApply st sg (gated (bookOf st) ws (recordsOf sg) m o) .state) ≡ gated (bookOf st) ws (recordsOf sg) m o .book
 unfolding gated refusedReply
 gated-state st ws sg m (some a) long =
     let b = bookOf st in
@@ -121,12 +123,12 @@ gated-state st ws sg m none long =
     settled-state st ws (lastOf (b .status)) m (turnRefusal (b .rules) (lineOf (rowsOf ws (b .rows))) (lastOf (b .status)) m) long
 
 pub applied-state : (st ws sg : List ℕ) (m : L3Message) → 27 ≤ length st
-    → bookOf (afterApply st (applied ceiling (bookOf st) ws sg m) .state) ≡ applied ceiling (bookOf st) ws sg m .book
+    → bookOf (afterApply st sg (applied ceiling (bookOf st) ws (recordsOf sg) m) .state) ≡ applied ceiling (bookOf st) ws (recordsOf sg) m .book
 unfolding applied
-applied-state st ws sg m long = gated-state st ws sg m (bookGate ceiling (bookOf st) ws sg m) long
+applied-state st ws sg m long = gated-state st ws sg m (bookGate ceiling (bookOf st) ws (recordsOf sg) m) long
 
 pub apply-state : (st ws sg m : List ℕ) → 27 ≤ length st → 21 ≤ length m
-    → bookOf (applyCall st ws sg m .state) ≡ applied ceiling (bookOf st) ws sg (messageOf m) .book
+    → bookOf (applyCall st ws sg m .state) ≡ applied ceiling (bookOf st) ws (recordsOf sg) (messageOf m) .book
 unfolding applyCall
 apply-state st ws sg m long full =
     rw (le-ltb (length st) 27 long, le-ltb (length m) 21 full) (applied-state st ws sg (messageOf m) long)
@@ -152,13 +154,13 @@ rejected-words st (Rejected Crossed) long h = raised-snapshots st long
 rejected-words st (Rejected CapacityExceeded) long h = raised-snapshots st long
 
 rejected-leaves : (st ws sg : List ℕ) (x : SnapshotAnswer) → 27 ≤ length st → eqb (snapshotNumber x) 0 ≡ false
-    → afterBootstrap st (boot.refused x (bookOf st) ws sg) ≡ snapshotLeaves (snapshotNumber x) st ws sg
-rejected-leaves st ws sg x long h = ap (λ l. called (snapshotNumber x) l ws sg) (rejected-words st x long h)
+    → afterBootstrap st sg (boot.refused x (bookOf st) ws (recordsOf sg)) ≡ snapshotLeaves (snapshotNumber x) st ws sg
+rejected-leaves st ws sg x long h = ap₂ (λ (l t : List ℕ). called (snapshotNumber x) l ws t) (rejected-words st x long h) (relaid-same sg)
 
 module _ (st ws sg bytes : List ℕ) where
   -- the call by what was found, and by what is lent
   abbrev left : Option SnapshotAnswer → ReadSnapshot → Call
-  left o r = afterBootstrap st (boot.settled o (bookOf st) ws sg (boot.taken r (bookOf st) ws sg bytes))
+  left o r = afterBootstrap st sg (boot.settled o (bookOf st) ws (recordsOf sg) (boot.taken r (bookOf st) ws (recordsOf sg) bytes))
 
   abbrev leftBy : Bool → Option SnapshotAnswer → ReadSnapshot → Call
   leftBy x o r = cond x (called 7 st ws sg) (left o r)
@@ -172,20 +174,20 @@ module _ (st ws sg bytes : List ℕ) where
 
   pub bootstrap-refused : eqb (bootstrapCall st ws sg bytes .number) 0 ≡ false → bootstrapCall st ws sg bytes ≡ snapshotLeaves (bootstrapCall st ws sg bytes .number) st ws sg
   unfolding bootstrapCall boot.bootstrapped
-  bootstrap-refused h = left-refused (ltb (length st) 27) (refusalOf ceiling (bookOf st) ws sg bytes) (readSnapshot bytes) refl h
+  bootstrap-refused h = left-refused (ltb (length st) 27) (refusalOf ceiling (bookOf st) ws (recordsOf sg) bytes) (readSnapshot bytes) refl h
 
   module _ (long : 27 ≤ length st) where
-    rejected-state : (x : SnapshotAnswer) → bookOf (afterBootstrap st (boot.refused x (bookOf st) ws sg) .state) ≡ boot.refusedBook x (bookOf st)
+    rejected-state : (x : SnapshotAnswer) → bookOf (afterBootstrap st sg (boot.refused x (bookOf st) ws (recordsOf sg)) .state) ≡ boot.refusedBook x (bookOf st)
     rejected-state x =
         let b = bookOf st in
         rw (counts-alone x b)
         (block-back st (eqb (snapshotNumber x) 0) (b .status) (b .rows) (b .segments) (boot.refusedBook x b .counts) long (λ e. refl))
 
-    left-state : (o : Option SnapshotAnswer) (r : ReadSnapshot) → bookOf (left o r .state) ≡ boot.settled o (bookOf st) ws sg (boot.taken r (bookOf st) ws sg bytes) .book
+    left-state : (o : Option SnapshotAnswer) (r : ReadSnapshot) → bookOf (left o r .state) ≡ boot.settled o (bookOf st) ws (recordsOf sg) (boot.taken r (bookOf st) ws (recordsOf sg) bytes) .book
     left-state (some x) r = rejected-state x
     left-state none (Refused e) = rejected-state (pieceAnswer e)
     left-state none (Snapshot s) = block-back st true _ _ _ _ long (λ e. absurd-bool e)
 
-    pub bootstrap-state : bookOf (bootstrapCall st ws sg bytes .state) ≡ boot.bootstrapped ceiling (bookOf st) ws sg bytes .book
+    pub bootstrap-state : bookOf (bootstrapCall st ws sg bytes .state) ≡ boot.bootstrapped ceiling (bookOf st) ws (recordsOf sg) bytes .book
     unfolding bootstrapCall boot.bootstrapped
-    bootstrap-state = rw (le-ltb (length st) 27 long) (left-state (refusalOf ceiling (bookOf st) ws sg bytes) (readSnapshot bytes))
+    bootstrap-state = rw (le-ltb (length st) 27 long) (left-state (refusalOf ceiling (bookOf st) ws (recordsOf sg) bytes) (readSnapshot bytes))

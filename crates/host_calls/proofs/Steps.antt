@@ -24,10 +24,12 @@ use Rattle.reconstructor.specs.Applied.{applied}
 use Rattle.reconstructor_handshake.specs.declared.StepAnswer.{StepAnswer}
 use Rattle.reconstructor_handshake.specs.declared.StepAnswer.the-variants.{Stepped, Dropped, OtherSegment}
 use Rattle.reconstructor_handshake.specs.Step.{otherSegment, drops, with, after, unchanged, decided, dropped, stepRefusal, settledStep, stepped, StepParts}
+use Rattle.host_records.specs.Records.{recordsOf, relaid}
 use Rattle.host_words.specs.Block.{bookOf, messageOf, restored, applyNumber}
 use Rattle.host_handshake.specs.Steps.{handshakeOf, handshakeLeft, stepSets}
 use Rattle.host_calls.specs.Calls.{Call, afterApply, StepCall, stepCalled, afterStep, stepCall}
 use Rattle.laws.proofs.Bools.{absurd-bool, or-no}
+use Rattle.host_records.proofs.Records.{relaid-same}
 use Rattle.host_words.proofs.Blocks.{block-same, raised, raised-dropped}
 use Rattle.host_words.proofs.RoundTrip.{block-back}
 use Rattle.host_handshake.proofs.Words.{handshake-back, handshake-same}
@@ -77,18 +79,18 @@ module _ (st ws sg hs : List ℕ) (m : L3Message) (long : 27 ≤ length st) (ful
 
   abbrev left : Option StepAnswer → Bool → StepParts
   left o d =
-      settledStep o (cond d (dropped (handshakeOf hs) (bookOf st) ws sg) (decided (handshakeOf hs) (applied ceiling (bookOf st) ws sg m)))
+      settledStep o (cond d (dropped (handshakeOf hs) (bookOf st) ws (recordsOf sg)) (decided (handshakeOf hs) (applied ceiling (bookOf st) ws (recordsOf sg) m)))
       (handshakeOf hs)
       (bookOf st)
       ws
-      sg
+      (recordsOf sg)
 
   -- a refusal that no `apply` has decided
-  kept : (k : ℕ) → stepCalled k (restored st false (bookOf st)) ws sg (handshakeLeft hs (handshakeOf hs)) ≡ stepCalled k st ws sg hs
-  kept k = rw (block-same st long, handshake-same hs full)
+  kept : (k : ℕ) → stepCalled k (restored st false (bookOf st)) ws (relaid sg (recordsOf sg)) (handshakeLeft hs (handshakeOf hs)) ≡ stepCalled k st ws sg hs
+  kept k = rw (block-same st long, relaid-same sg, handshake-same hs full)
 
-  left-refused : (o : Option StateError) (x y d : Bool) → stepActs (afterStep st hs (left (gate o x y) d) .number) ≡ false
-      → afterStep st hs (left (gate o x y) d) ≡ stepLeaves (afterStep st hs (left (gate o x y) d) .number) st ws sg hs
+  left-refused : (o : Option StateError) (x y d : Bool) → stepActs (afterStep st sg hs (left (gate o x y) d) .number) ≡ false
+      → afterStep st sg hs (left (gate o x y) d) ≡ stepLeaves (afterStep st sg hs (left (gate o x y) d) .number) st ws sg hs
   unfolding settledStep first check
   left-refused (some LimitAboveCeiling) x y d h = kept 1
   left-refused (some LentTooShort) x y d h = kept 2
@@ -97,23 +99,23 @@ module _ (st ws sg hs : List ℕ) (m : L3Message) (long : 27 ≤ length st) (ful
   left-refused none false true d h = kept 5
   left-refused none false false true h = absurd-bool h
   left-refused none false false false h =
-      let p = applied ceiling (bookOf st) ws sg m in
+      let p = applied ceiling (bookOf st) ws (recordsOf sg) m in
       let refused = or-no (acts (applyNumber (p .answer))) (eqb (applyNumber (p .answer)) 512) h .0 in
       ap (λ (c : Call). stepCalled (c .number) (c .state) (c .rows) (c .segments) (handshakeLeft hs (after (handshakeOf hs) (p .answer)))) (applied-words st ws sg m long refused) ∙
       ap (stepCalled (applyNumber (p .answer)) (counted (applyNumber (p .answer)) st) ws sg) (after-words hs (p .answer) full refused)
 
-  left-dropped : (o : Option StateError) (x y d : Bool) → eqb (afterStep st hs (left (gate o x y) d) .number) 512 ≡ true
-      → afterStep st hs (left (gate o x y) d) ≡ stepCalled 512 (raised st 23) ws sg hs
+  left-dropped : (o : Option StateError) (x y d : Bool) → eqb (afterStep st sg hs (left (gate o x y) d) .number) 512 ≡ true
+      → afterStep st sg hs (left (gate o x y) d) ≡ stepCalled 512 (raised st 23) ws sg hs
   unfolding settledStep first check
   left-dropped (some LimitAboveCeiling) x y d h = absurd-bool (sym h)
   left-dropped (some LentTooShort) x y d h = absurd-bool (sym h)
   left-dropped (some MalformedBook) x y d h = absurd-bool (sym h)
   left-dropped none true y d h = absurd-bool (sym h)
   left-dropped none false true d h = absurd-bool (sym h)
-  left-dropped none false false true h = rw (raised-dropped st long, handshake-same hs full)
-  left-dropped none false false false h = absurd-bool (sym h ∙ not-dropped (applied ceiling (bookOf st) ws sg m .answer))
+  left-dropped none false false true h = rw (raised-dropped st long, relaid-same sg, handshake-same hs full)
+  left-dropped none false false false h = absurd-bool (sym h ∙ not-dropped (applied ceiling (bookOf st) ws (recordsOf sg) m .answer))
 
-  left-state : (o : Option StepAnswer) (d : Bool) → bookOf (afterStep st hs (left o d) .state) ≡ left o d .book
+  left-state : (o : Option StepAnswer) (d : Bool) → bookOf (afterStep st sg hs (left o d) .state) ≡ left o d .book
   unfolding settledStep
   left-state (some a) d =
       let b = bookOf st in
@@ -127,7 +129,7 @@ module _ (st ws sg hs : List ℕ) (m : L3Message) (long : 27 ≤ length st) (ful
 abbrev stateOf : List ℕ → List ℕ → List ℕ → Option StateError
 stateOf st ws sg =
     let b = bookOf st in
-    stateRefusal ceiling (b .rules) (lengthsOf ws sg) (broken b ws) (viewOf b ws sg)
+    stateRefusal ceiling (b .rules) (lengthsOf ws (recordsOf sg)) (broken b ws) (b .segments)
 
 module _ (st ws sg hs m : List ℕ) where
   abbrev other : Bool
@@ -137,14 +139,14 @@ module _ (st ws sg hs m : List ℕ) where
   far = not (eventInRange (messageOf m .event))
 
   abbrev old : Bool
-  old = drops (bookOf st .«product_id») (viewOf (bookOf st) ws sg .startSeq) (messageOf m)
+  old = drops (bookOf st .«product_id») (viewOf (bookOf st) ws (recordsOf sg) .startSeq) (messageOf m)
 
   abbrev short : Bool
   short = ltb (length st) 27 || (ltb (length hs) 4 || ltb (length m) 21)
 
   abbrev leftBy : Bool → StepCall
   leftBy x =
-      cond x (stepCalled 7 st ws sg hs) (afterStep st hs (stepped ceiling (handshakeOf hs) (bookOf st) ws sg (messageOf m)))
+      cond x (stepCalled 7 st ws sg hs) (afterStep st sg hs (stepped ceiling (handshakeOf hs) (bookOf st) ws (recordsOf sg) (messageOf m)))
 
   by-refused : (x : Bool) → short ≡ x → stepActs (leftBy x .number) ≡ false → leftBy x ≡ stepLeaves (leftBy x .number) st ws sg hs
   unfolding stepped stepRefusal
@@ -169,13 +171,13 @@ module _ (st ws sg hs m : List ℕ) where
   step-dropped h = by-dropped short refl h
 
   module _ (lent : short ≡ false) where
-    pub step-state : bookOf (stepCall st ws sg hs m .state) ≡ stepped ceiling (handshakeOf hs) (bookOf st) ws sg (messageOf m) .book
+    pub step-state : bookOf (stepCall st ws sg hs m .state) ≡ stepped ceiling (handshakeOf hs) (bookOf st) ws (recordsOf sg) (messageOf m) .book
     unfolding stepCall stepped
     step-state =
         let sizes = lent-three st 27 hs 4 m 21 lent in
         rw lent
-        (left-state st ws sg hs (messageOf m) (sizes .0) (sizes .1 .0) (stepRefusal ceiling (bookOf st .rules) (lengthsOf ws sg) (broken (bookOf st) ws) (viewOf (bookOf st) ws sg) (segmentOf (bookOf st)) (handshakeOf hs) (messageOf m)) old)
+        (left-state st ws sg hs (messageOf m) (sizes .0) (sizes .1 .0) (stepRefusal ceiling (bookOf st .rules) (lengthsOf ws (recordsOf sg)) (broken (bookOf st) ws) (viewOf (bookOf st) ws (recordsOf sg)) (segmentOf (bookOf st)) (handshakeOf hs) (messageOf m)) old)
 
-    pub step-handshake : handshakeOf (stepCall st ws sg hs m .handshake) ≡ stepped ceiling (handshakeOf hs) (bookOf st) ws sg (messageOf m) .handshake
+    pub step-handshake : handshakeOf (stepCall st ws sg hs m .handshake) ≡ stepped ceiling (handshakeOf hs) (bookOf st) ws (recordsOf sg) (messageOf m) .handshake
     unfolding stepCall
     step-handshake = rw lent (handshake-back hs _)

@@ -1,8 +1,12 @@
-// The calls on a book whose state, message and handshake are words: those that `host` exports.
+// The calls on a book whose state, message, handshake and segment list are words: those that `host` exports. Each does on words what the call it is named after
+// does on a slice of records, by the same work.
 use host_handshake::load_handshake;
 use host_handshake::step_number;
 use host_handshake::step_sets_status;
 use host_handshake::store_handshake;
+use host_records::last_record;
+use host_records::put_record;
+use host_records::rewrite_record;
 use host_words::apply_number;
 use host_words::load_book;
 use host_words::load_message;
@@ -22,10 +26,14 @@ pub fn apply(state: &mut [u64], rows: &mut [u64], segments: &mut [u64], message:
     if message.len() < 21 {
         return 7;
     }
-    let reply = reconstructor::apply(load_book(state), rows, segments, load_message(message));
-    let book = reply.book;
-    let answer = reply.answer;
-    store_book(state, book, sets_status(answer));
+    let book = load_book(state);
+    let count = book.segments;
+    let lent = segments.len() / 8;
+    let last = last_record(segments, count);
+    let work = reconstructor::apply_by_value(book, rows, lent, last, load_message(message));
+    rewrite_record(segments, count, work.segment);
+    let answer = work.answer;
+    store_book(state, work.book, sets_status(answer));
     apply_number(answer)
 }
 
@@ -35,11 +43,16 @@ pub fn bootstrap(state: &mut [u64], rows: &mut [u64], segments: &mut [u64], byte
     if state.len() < 27 {
         return 7;
     }
-    let reply = reconstructor_bootstrap::bootstrap(load_book(state), rows, segments, bytes);
-    let book = reply.book;
-    let answer = reply.answer;
+    let book = load_book(state);
+    let count = book.segments;
+    let lent = segments.len() / 8;
+    let last = last_record(segments, count);
+    let work = reconstructor_bootstrap::bootstrap_by_value(book, rows, lent, last, bytes);
+    rewrite_record(segments, count, work.segment);
+    put_record(segments, work.at, work.started);
+    let answer = work.answer;
     let number = answer.number();
-    store_book(state, book, number == 0);
+    store_book(state, work.book, number == 0);
     number
 }
 
@@ -65,14 +78,15 @@ pub fn step(
     if (state.len() < 27) | ((handshake.len() < 4) | (message.len() < 21)) {
         return 7;
     }
-    let reply = load_handshake(handshake).step(
-        load_book(state),
-        rows,
-        segments,
-        load_message(message),
-    );
-    let answer = reply.answer;
-    store_book(state, reply.book, step_sets_status(answer));
-    store_handshake(handshake, reply.handshake);
+    let book = load_book(state);
+    let count = book.segments;
+    let lent = segments.len() / 8;
+    let last = last_record(segments, count);
+    let hands = load_handshake(handshake);
+    let work = hands.step_by_value(book, rows, lent, last, load_message(message));
+    rewrite_record(segments, count, work.segment);
+    let answer = work.answer;
+    store_book(state, work.book, step_sets_status(answer));
+    store_handshake(handshake, work.handshake);
     step_number(answer)
 }

@@ -1,6 +1,6 @@
 -- A run, message by message: each is a call of `pinuglaw_apply`, and the state and the index go on.
 -- Assumes nothing.
-use Prim.Native.Nat.{ℕ, zero, suc, _+_, _*_, _-_, _≤_, _<_}
+use Prim.Native.Nat.{ℕ, suc, _+_, _*_, _-_, _/_, _≤_, _<_}
 use mathlib.Core.Path.{_≡_, refl, sym, subst, ap, _∙_}
 use mathlib.Core.Bool.{Bool, true, false, _||_}
 use mathlib.Core.List.{List, [], _∷_, _++_, append-assoc}
@@ -13,38 +13,37 @@ use lib.ListN.{length, set, take, drop, length-drop, length-set, take-append-dro
 use lib.Seq.{take-all, take-suc-set, drop-set-lt, drop-drop}
 use Rattle.message.specs.declared.L3Message.{L3Message}
 use Rattle.book.specs.declared.Resting.{Resting}
-use Rattle.book.specs.Rows.{ceiling, rowsOf, Lent}
+use Rattle.book.specs.Rows.{ceiling, rowsOf}
 use Rattle.book_index.specs.declared.Bounds.{Bounds}
 use Rattle.book_index.specs.Index.{rowMarked, rowBounded, all, Indexed, Foreseen, noted}
+use Rattle.reconstructor_segments.specs.declared.Segment.{Segment}
+use Rattle.reconstructor_segments.specs.Segments.{segmentAt}
 use Rattle.reconstructor_state.specs.declared.BookReconstructor.{BookReconstructor}
-use Rattle.reconstructor.specs.declared.Reply.{Reply}
-use Rattle.reconstructor.specs.Applied.{Parts, leaves, applied}
+use Rattle.reconstructor.specs.declared.Work.{Work}
+use Rattle.reconstructor.specs.Applied.{Parts, applied}
+use Rattle.reconstructor.specs.ByValue.{worked, trustedTo, relisted}
 use Rattle.reconstructor_answers.specs.declared.StateError.{StateError}
 use Rattle.reconstructor_answers.specs.Numbers.{stateErrorNumber}
 use Rattle.reconstructor_checks.specs.declared.Checked.{Checked}
 use Rattle.reconstructor_checks.specs.declared.Checked.the-variants.{Passed, Refused}
-use Rattle.reconstructor_checks.specs.Own.{bookRefusal, checked, Usable}
+use Rattle.reconstructor_checks.specs.Own.{bookRefusal, checked, Usable, Trusted}
+use Rattle.host_records.specs.Records.{recordsOf, relaid}
+use Rattle.host_records.proofs.Records.{length-records}
 use Rattle.host_words.specs.Block.{bookOf, messageOf, restored, applyNumber, setsStatus}
 use Rattle.host_calls.specs.Calls.{Call, called, afterApply, applyCall}
 use Rattle.host_replay.specs.Replay.{Run, then, run, ReplayCall, replayCalled, countOf, afterRun, replayCall, Ready, Runs}
-use Rattle.reconstructor_checks.proofs.Own.{usable, sound, said, said-none}
-use Rattle.reconstructor.proofs.Laws.{trusted-ready}
+use Rattle.reconstructor_checks.proofs.Own.{usable, trusted, sound, said, said-none}
+use Rattle.reconstructor.proofs.ByValue.{applied-trusted}
 use Rattle.reconstructor.proofs.Kept.{usable-kept, indexed-kept}
 use Rattle.host_words.proofs.Lent.{lent-two}
 use Rattle.host_calls.proofs.Blocks.{applied-state}
 
--- a usable state's rows lie in the words
-pub lent : (b : BookReconstructor) (ws sg : List ℕ) → Usable ceiling b ws sg → Lent ws (b .rows)
-lent b ws sg v =
-    let u = trusted-ready b ws sg v in
-    record { room = omega (arith, u .few, u .room); few = omega (arith, u .few, u .small) }
-
 -- what the loop carries, of the state as it was loaded
 module _ (st ws sg ps : List ℕ) (bd : Bounds) (b : BookReconstructor) (e : b ≡ bookOf st) where
-  pub loaded : Runs st ws sg ps bd → Usable ceiling b ws sg × Indexed ps bd (rowsOf ws (b .rows))
-  loaded r = (rw e (r .usable), rw e (r .index))
+  pub loaded : Runs st ws sg ps bd → Trusted ceiling b ws × Indexed ps bd (rowsOf ws (b .rows))
+  loaded r = rw e (trusted ceiling (bookOf st) ws (length sg / 8) (r .usable), r .index)
 
-  pub runs-start : 27 ≤ length st → Usable ceiling (bookOf st) ws sg → length ps ≤ 65536 → all (rowMarked ps) (rowsOf ws (b .rows)) ≡ true
+  pub runs-start : 27 ≤ length st → Usable ceiling (bookOf st) ws (length sg / 8) → length ps ≤ 65536 → all (rowMarked ps) (rowsOf ws (b .rows)) ≡ true
       → all (rowBounded bd) (rowsOf ws (b .rows)) ≡ true → Runs st ws sg ps bd
   runs-start whole u few marks within =
       record {
@@ -59,34 +58,39 @@ foreseen ps bd nd os i h = record { few = i .few; marks = i .marks; within = h; 
 
 -- ---- a message
 
-module _ (st ws sg m : List ℕ) (r : Reply) (vs tg : List ℕ) (e : leaves r vs tg ≡ applied ceiling (bookOf st) ws sg (messageOf m)) (whole : 27 ≤ length st) where
-  applies : 21 ≤ length m → called (applyNumber (r .answer)) (restored st (setsStatus (r .answer)) (r .book)) vs tg ≡ applyCall st ws sg m
+-- what its call was seen to give leaves the words of `applyCall`, and the loop goes on
+module _ (st ws sg m ps : List ℕ) (n : ℕ) (bd : Bounds) (w : Work) (ut vs tg qs : List ℕ) (g : Segment) (at : g ≡ segmentAt (recordsOf sg) (bookOf st .segments - 1))
+    (e : worked w vs ≡ trustedTo (bookOf st) ws g (messageOf m)) (eg : tg ≡ relaid sg (set (recordsOf sg) (bookOf st .segments - 1) (w .segment)))
+    (eu : ut ≡ restored st (setsStatus (w .answer)) (w .book)) (en : qs ≡ noted ps n (messageOf m .event)) (whole : 27 ≤ length st) (u : Usable ceiling (bookOf st) ws (length sg / 8)) where
+  abbrev after : Parts
+  after = applied ceiling (bookOf st) ws (recordsOf sg) (messageOf m)
+
+  usable-records : Usable ceiling (bookOf st) ws (length (recordsOf sg))
+  usable-records = rw (length-records sg) u
+
+  -- the work with the record written back is what the rules leave
+  done : relisted (recordsOf sg) (bookOf st .segments) (worked w vs) ≡ after
+  done =
+      ap (relisted (recordsOf sg) (bookOf st .segments)) (e ∙ ap (λ (x : Segment). trustedTo (bookOf st) ws x (messageOf m)) at)
+      ∙ sym (applied-trusted (bookOf st) ws (recordsOf sg) (messageOf m) ceiling usable-records)
+
+  pub applies : 21 ≤ length m → called (applyNumber (w .answer)) ut vs tg ≡ applyCall st ws sg m
   unfolding applyCall
-  applies full = rw (le-ltb (length st) 27 whole, le-ltb (length m) 21 full) (ap (afterApply st) e)
+  applies full = rw (le-ltb (length st) 27 whole, le-ltb (length m) 21 full, eu, eg) (ap (afterApply st sg) done)
 
-  runs-on : (places : List ℕ) (n : ℕ) (b : Bounds) → 27 ≤ length (restored st (setsStatus (r .answer)) (r .book)) → Usable ceiling (bookOf st) ws sg
-      → Indexed places b (rowsOf ws (bookOf st .rows)) → Foreseen b (messageOf m .event) → length (noted places n (messageOf m .event)) ≡ length places
-      → Runs (restored st (setsStatus (r .answer)) (r .book)) vs tg (noted places n (messageOf m .event)) b
-  runs-on places n b long u i w l =
-      let now : bookOf (restored st (setsStatus (r .answer)) (r .book)) ≡ r .book =
-      subst (λ (p : Parts). bookOf (afterApply st p .state) ≡ p .book) (sym e) (applied-state st ws sg (messageOf m) whole) in
-      let usable : Usable ceiling (r .book) vs tg =
-      subst (λ (p : Parts). Usable ceiling (p .book) (p .rows) (p .segments)) (sym e) (usable-kept ceiling (bookOf st) ws sg u (messageOf m)) in
-      let index : Indexed (noted places n (messageOf m .event)) b (rowsOf vs (r .book .rows)) =
-      subst (λ (p : Parts). Indexed (noted places n (messageOf m .event)) b (rowsOf (p .rows) (p .book .rows))) (sym e)
-      (indexed-kept ceiling (bookOf st) ws sg (messageOf m) places b n u i w l) in
-      record { whole = long; usable = rw now usable; index = rw now index }
+  kept : length (after .segments) ≡ length sg / 8
+  kept = ap (λ (p : Parts). length (p .segments)) (sym done) ∙ length-set (recordsOf sg) (bookOf st .segments - 1) (w .segment) ∙ length-records sg
 
--- the same of what the calls in the loop were seen to give
-pub message-runs : (st ws sg m ps : List ℕ) (n : ℕ) (bd : Bounds) (b : BookReconstructor) (l : L3Message) (r : Reply) (ut vs tg qs : List ℕ) (sets : Bool) (k : ℕ)
-    → b ≡ bookOf st → l ≡ messageOf m → leaves r vs tg ≡ applied ceiling b ws sg l → qs ≡ noted ps n (l .event) → sets ≡ setsStatus (r .answer)
-    → ut ≡ restored st sets (r .book) → k ≡ applyNumber (r .answer) → 27 ≤ length st → 21 ≤ length m → length ut ≡ length st → length qs ≡ length ps
-    → Usable ceiling b ws sg → Indexed ps bd (rowsOf ws (b .rows)) → Foreseen bd (l .event) → (called k ut vs tg ≡ applyCall st ws sg m) × Runs ut vs tg qs bd
-message-runs st ws sg m ps n bd b l r ut vs tg qs sets k eb el e en es eu ek whole full long same u i w =
-    let e′ = rw (eb, el) at e in
-    let long′ : 27 ≤ length (restored st (setsStatus (r .answer)) (r .book)) = rw (← es, ← eu) (omega arith) in
-    rw (ek, eu, es, en, el)
-    (applies st ws sg m r vs tg e′ whole full, runs-on st ws sg m r vs tg e′ whole ps n bd long′ (rw eb at u) (rw eb at i) (rw el at w) (rw (en, el) at same))
+  pub runs-on : length ut ≡ length st → length tg ≡ length sg → length qs ≡ length ps → Indexed ps bd (rowsOf ws (bookOf st .rows)) → Foreseen bd (messageOf m .event) → Runs ut vs tg qs bd
+  runs-on long same few i f =
+      let now : bookOf ut ≡ w .book =
+      ap bookOf eu ∙ subst (λ (p : Parts). bookOf (afterApply st sg p .state) ≡ p .book) (sym done) (applied-state st ws sg (messageOf m) whole) in
+      let usable : Usable ceiling (w .book) vs (length sg / 8) =
+      rw kept at (subst (λ (p : Parts). Usable ceiling (p .book) (p .rows) (length (after .segments))) (sym done) (usable-kept ceiling (bookOf st) ws (recordsOf sg) usable-records (messageOf m))) in
+      let index : Indexed qs bd (rowsOf vs (w .book .rows)) =
+      subst (λ (p : Parts). Indexed qs bd (rowsOf (p .rows) (p .book .rows))) (sym done)
+      (rw en (indexed-kept ceiling (bookOf st) ws (recordsOf sg) (messageOf m) ps bd n usable-records i f (rw en at few))) in
+      record { whole = omega arith; usable = rw (now, same) usable; index = rw now index }
 
 -- ---- the loop
 
@@ -172,11 +176,11 @@ module _ (st₀ ws₀ sg₀ ms out₀ ps₀ st ws sg out ps : List ℕ) (b : Bou
 -- ---- the call, by what the own checks of the loaded state say
 
 module _ (st ws sg ms out : List ℕ) (short : (ltb (length st) 27 || ltb (length out) (countOf ms)) ≡ false) (b : BookReconstructor) (e : b ≡ bookOf st) (k : Checked)
-    (q : k ≡ checked (bookRefusal ceiling b ws sg)) where
+    (q : k ≡ checked (bookRefusal ceiling b ws (length sg / 8))) where
   pub ready : k ≡ Passed → Ready st ws sg ms out
   ready p =
       let l = lent-two st 27 out (countOf ms) short in
-      record { whole = l .0; usable = rw e at (usable ceiling b ws sg (said-none _ _ q p)); answered = l .1 }
+      record { whole = l .0; usable = rw e at (usable ceiling b ws (length sg / 8) (said-none _ _ q p)); answered = l .1 }
 
   pub run-refused : (w : StateError) → k ≡ Refused w → (n : ℕ) → n ≡ stateErrorNumber w → replayCalled n st ws sg out ≡ replayCall st ws sg ms out
   unfolding replayCall

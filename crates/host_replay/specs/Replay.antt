@@ -61,19 +61,19 @@ replaySettled none st ws sg ms out = afterRun out (run (countOf ms) st ws sg ms)
 unfoldable pub replayCall : List ℕ → List ℕ → List ℕ → List ℕ → List ℕ → ReplayCall
 replayCall st ws sg ms out =
     cond (ltb (length st) 27 || ltb (length out) (countOf ms)) (replayCalled 7 st ws sg out)
-    (replaySettled (bookRefusal ceiling (bookOf st) ws sg) st ws sg ms out)
+    (replaySettled (bookRefusal ceiling (bookOf st) ws (length sg / 8)) st ws sg ms out)
 
 -- ---- what the inner functions require
 
 -- lent words that are enough, and a state that passes 1, 2 and 3
 pub record Ready (st ws sg ms out : List ℕ) : Type 0 where
   pub whole : 27 ≤ length st
-  pub usable : Usable ceiling (bookOf st) ws sg
+  pub usable : Usable ceiling (bookOf st) ws (length sg / 8)
   pub answered : countOf ms ≤ length out
 
 -- such a state, and an index of its rows
 
 pub record Runs (st ws sg places : List ℕ) (b : Bounds) : Type 0 where
   pub whole : 27 ≤ length st
-  pub usable : Usable ceiling (bookOf st) ws sg
+  pub usable : Usable ceiling (bookOf st) ws (length sg / 8)
   pub index : Indexed places b (rowsOf ws (bookOf st .rows))

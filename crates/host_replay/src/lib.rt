@@ -1,5 +1,7 @@
 // A run of messages applied to a book whose state and messages are words. Numbers 1, 2 and 3 are tested once, and an index of the rows serves the whole run.
 use book_index::Bounds;
+use host_records::last_record;
+use host_records::rewrite_record;
 use host_words::apply_number;
 use host_words::load_book;
 use host_words::load_message;
@@ -37,10 +39,13 @@ fn replay_message(
     let event = message.event;
     let n = book.rows;
     let next = book_index::foresee(rows, n, bounds, event);
-    let reply = reconstructor::apply_indexed(book, rows, segments, places, next, message);
+    let count = book.segments;
+    let last = last_record(segments, count);
+    let work = reconstructor::apply_indexed(book, rows, last, places, next, message);
+    rewrite_record(segments, count, work.segment);
     book_index::note(places, n, event);
-    let answer = reply.answer;
-    store_book(state, reply.book, sets_status(answer));
+    let answer = work.answer;
+    store_book(state, work.book, sets_status(answer));
     Replayed {
         number: apply_number(answer),
         bounds: next,
@@ -135,7 +140,7 @@ pub fn replay(
         return 7;
     }
     let book = load_book(state);
-    match reconstructor_checks::own_checks(book, rows, segments) {
+    match reconstructor_checks::own_checks(book, rows, segments.len() / 8) {
         Checked::Refused(why) => why.number(),
         Checked::Passed => {
             if book.rows <= 256 {

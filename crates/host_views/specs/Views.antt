@@ -12,6 +12,7 @@ use Rattle.book.specs.Rows.{ceiling}
 use Rattle.host_words.specs.Block.{bookOf}
 use Rattle.reconstructor_view.specs.View.{lastSequence, bestRead, auditRead, invalidationOf, segmentRead}
 use Rattle.reconstructor_reads.specs.Reads.{LevelRead, StaleRead, levelQueue, priorityProfile, l2, staleL2}
+use Rattle.host_records.specs.Records.{recordsOf}
 use Rattle.host_reads.specs.Answers.{Answered, answered, lastAnswered, bestAnswered, auditNumber, invalidationAnswered, segmentAnswered, levelAnswered, staleAnswered}
 
 -- ---- reads whose answer is a value
@@ -36,7 +37,7 @@ invalidationCall st out =
 
 unfoldable pub segmentCall : List ℕ → List ℕ → ℕ → List ℕ → Answered
 segmentCall st sg place out =
-    cond (ltb (length st) 27 || ltb (length out) 10) (answered 7 out) (segmentAnswered (segmentRead (bookOf st) sg place) out)
+    cond (ltb (length st) 27 || ltb (length out) 10) (answered 7 out) (segmentAnswered (segmentRead (bookOf st) (recordsOf sg) place) out)
 
 -- ---- level reads: the number of entries goes to `count`
 

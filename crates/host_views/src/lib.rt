@@ -57,10 +57,11 @@ pub fn segment(state: &[u64], segments: &[u64], place: usize, out: &mut [u64]) -
     if (state.len() < 27) | (out.len() < 10) {
         return 7;
     }
-    store_segment(
-        out,
-        reconstructor_view::segment(load_book(state), segments, place),
-    )
+    let book = load_book(state);
+    let lent = segments.len() / 8;
+    let record = host_records::record_at(segments, place);
+    let answer = reconstructor_view::segment_by_value(book, lent, place, record);
+    store_segment(out, answer)
 }
 
 pub fn level_queue(

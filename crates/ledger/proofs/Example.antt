@@ -23,7 +23,7 @@ use Rattle.piece.specs.Encode.{snapshotBytes}
 use Rattle.book.specs.Rows.{ceiling, rowsFrom, stored, sideOf}
 use Rattle.book.specs.Broken.{rowBroken}
 use Rattle.reconstructor_counts.specs.Counts.{saturated}
-use Rattle.reconstructor_segments.specs.Segments.{setSegment}
+use Rattle.reconstructor_segments.specs.declared.Segment.{Segment}
 use Rattle.reconstructor_state.specs.Checks.{check, first}
 use Rattle.reconstructor_state.specs.State.{Lengths, limitedRules}
 use Rattle.reconstructor_checks.specs.Own.{broken, stateRefusal}
@@ -55,8 +55,21 @@ config = record { product = product; rules = limitedRules 3 3; number = 1 }
 abbrev words : List ℕ
 words = 7 ∷ 7 ∷ 7 ∷ 7 ∷ 7 ∷ 7 ∷ 7 ∷ 7 ∷ 7 ∷ 7 ∷ 7 ∷ 7 ∷ 7 ∷ 7 ∷ 7 ∷ 7 ∷ 7 ∷ 7 ∷ 7 ∷ 7 ∷ 7 ∷ 7 ∷ 7 ∷ 7 ∷ 7 ∷ 7 ∷ []
 
-abbrev records : List ℕ
-records = 9 ∷ 9 ∷ 9 ∷ 9 ∷ 9 ∷ 9 ∷ 9 ∷ 9 ∷ 9 ∷ 9 ∷ 9 ∷ 9 ∷ 9 ∷ 9 ∷ 9 ∷ 9 ∷ []
+abbrev anyRecord : Segment
+anyRecord =
+    record {
+      «start_seq» = 9;
+      «last_good_seq» = 9;
+      end = 9;
+      «end_good» = 9;
+      «end_seq» = 9;
+      «end_detail» = 9;
+      «first_us» = 9;
+      «last_us» = 9;
+    }
+
+abbrev records : List Segment
+records = anyRecord ∷ anyRecord ∷ []
 
 abbrev id : ℕ → OrderId
 id k = record { high = 0; low = k }
@@ -129,11 +142,11 @@ pub record Worked : Type 0 where
   counts : kept config (before ++ (after ++ recovered)) ≡ recovered
   rule : SumRule config words records (before ++ (after ++ recovered))
 
-fits : Lendable 26 16 (before ++ (after ++ recovered))
+fits : Lendable 26 2 (before ++ (after ++ recovered))
 fits = ((omega arith, omega arith), ((omega arith, omega arith), ((omega arith, omega arith), ((omega arith, omega arith), ((omega arith, omega arith), ((omega arith, omega arith), ((omega arith, omega arith), ((omega arith, omega arith), ((omega arith, omega arith), ((omega arith, omega arith), tt))))))))))
 
 pub worked : Worked
-unfolding perform applied stepped settledStep stepRefusal bootstrapped gated settled recorded acceptedCore acceptedReply invalidatedReply refusedReply turnRefusal gateRefusal admitRefusal stateRefusal broken eventDeed counterOf effect eventRefusal makerRefusal openRefusal check first saturated setSegment rowsFrom stored sideOf rowBroken inRange optionalInRange eventInRange differs givenDiffers absentOrDiffers sameId sameProduct closed bootRefusal acceptRefusal snapshotRefusal lineRefusal readSnapshot snapshotShaped snapshotOf bidsAt asksAt ordersFrom orderAt orderFrom amountAt wordAt orderIdAt productIdAt part little big littleBytes bigBytes orderInRange ordersInRange viewRefusal readRefusal levelRead staleRead shown feedView feedFigure tally applyOutcome settle stepOutcome stepSettle keptAfter
+unfolding perform applied stepped settledStep stepRefusal bootstrapped gated settled recorded acceptedCore acceptedReply invalidatedReply refusedReply turnRefusal gateRefusal admitRefusal stateRefusal broken eventDeed counterOf effect eventRefusal makerRefusal openRefusal check first saturated rowsFrom stored sideOf rowBroken inRange optionalInRange eventInRange differs givenDiffers absentOrDiffers sameId sameProduct closed bootRefusal acceptRefusal snapshotRefusal lineRefusal readSnapshot snapshotShaped snapshotOf bidsAt asksAt ordersFrom orderAt orderFrom amountAt wordAt orderIdAt productIdAt part little big littleBytes bigBytes orderInRange ordersInRange viewRefusal readRefusal levelRead staleRead shown feedView feedFigure tally applyOutcome settle stepOutcome stepSettle keptAfter
 worked =
     record {
       lendable = fits;

@@ -1,6 +1,6 @@
 -- The world follows the ledger's view: after each call the state with its memory stands for it. Number 3 never arises.
 -- Assumes nothing.
-use Prim.Native.Nat.{ℕ, _+_, _*_, _-_, _/_, _≤_}
+use Prim.Native.Nat.{ℕ, _+_, _*_, _-_, _≤_}
 use native.Mathlib.Omega.{arith}
 use mathlib.Core.Bool.{Bool, true, false, _||_}
 use mathlib.Core.Path.{_≡_, refl, sym, ap, ap₂, subst, _∙_}
@@ -19,10 +19,11 @@ use Rattle.book.proofs.Kept.{empty-formed, not-broken}
 use Rattle.reconstructor_answers.specs.declared.StateError.{StateError}
 use Rattle.reconstructor_answers.specs.declared.StateError.the-variants.{LimitAboveCeiling, LentTooShort, MalformedBook}
 use Rattle.reconstructor_answers.specs.declared.ApplyAnswer.the-variants as answers
+use Rattle.reconstructor_segments.specs.declared.Segment.{Segment}
 use Rattle.reconstructor_segments.specs.Segments.{segmentAt}
 use Rattle.reconstructor_state.specs.declared.VenueRules.{VenueRules}
 use Rattle.reconstructor_state.specs.declared.BookReconstructor.{BookReconstructor}
-use Rattle.reconstructor_state.specs.State.{View, Lengths, lengthsOf, viewOf, newBook}
+use Rattle.reconstructor_state.specs.State.{View, Lengths, lengthsOf, newBook}
 use Rattle.reconstructor_state.proofs.Checks.{fails, goes-on, first-fails}
 use Rattle.reconstructor_checks.specs.Own.{Usable, broken, overCeiling, tooShort, stateRefusal, bookRefusal}
 use Rattle.reconstructor_checks.proofs.Own.{sound, usable-none}
@@ -39,7 +40,7 @@ use Rattle.reconstructor_handshake.specs.Step.{stepRefusal, stepped}
 use Rattle.reconstructor_handshake.proofs.Step.{unusable-step}
 use Rattle.ledger.specs.Ledger.{Config, Call, bootstrap, apply, step, read, blank, refused, settle, applyOutcome, stepSettle, stepOutcome, bootOutcome, viewBy, viewBoot, feedView}
 use Rattle.ledger.specs.World.{World, lentRows, lentSegments, back, perform, run, Fits, Lendable, freshWorld, lineAt}
-use Rattle.ledger.proofs.Stands.{seen, Starts, Stands, rows-front, start-front, apply-stands, step-stands, boot-stands}
+use Rattle.ledger.proofs.Stands.{seen, Starts, Stands, rows-front, segment-front, apply-stands, step-stands, boot-stands}
 use Rattle.ledger.proofs.Left.{Left, apply-left, step-left, boot-left}
 
 -- the views of all calls, one after the other
@@ -51,8 +52,6 @@ pub record Follows (c : Config) (r s : ℕ) (w : World) (v : View) : Type 0 wher
   pub stands : Stands c (w .book) (w .rows) (w .segments) v
   pub wide : length (w .rows) ≡ r
   pub long : length (w .segments) ≡ s
-  pub room : 8 * w .book .rows ≤ length (w .rows)
-  pub listed : 8 * w .book .segments ≤ length (w .segments)
 
 some-same : (a b : StateError) → _≡_ {A = Option StateError} (some a) (some b) → a ≡ b
 some-same a b h = cc
@@ -60,37 +59,37 @@ some-same a b h = cc
 some-none : (a : StateError) → _≡_ {A = Option StateError} (some a) none → ⊥
 some-none a h = let z : _≡_ {A = ℕ} 0 1 = cc in omega (arith, z)
 
--- ---- number 1 or 2 is said of the view and the lengths alone
+-- ---- number 1 or 2 is said of the rules, the lengths and the number of segments alone
 
-early : (v : VenueRules) (n : Lengths) (three : Bool) (w : View) → (overCeiling ceiling v || tooShort v n w) ≡ true
-    → (e : StateError) × (stateRefusal ceiling v n three w ≡ some e) × (e ≡ MalformedBook → ⊥)
+early : (v : VenueRules) (n : Lengths) (three : Bool) (k : ℕ) → (overCeiling ceiling v || tooShort v n k) ≡ true
+    → (e : StateError) × (stateRefusal ceiling v n three k ≡ some e) × (e ≡ MalformedBook → ⊥)
 unfolding stateRefusal
-early v n three w h = go (overCeiling ceiling v) refl h
+early v n three k h = go (overCeiling ceiling v) refl h
   where
-    go : (b : Bool) → overCeiling ceiling v ≡ b → (b || tooShort v n w) ≡ true → (e : StateError) × (stateRefusal ceiling v n three w ≡ some e) × (e ≡ MalformedBook → ⊥)
+    go : (b : Bool) → overCeiling ceiling v ≡ b → (b || tooShort v n k) ≡ true → (e : StateError) × (stateRefusal ceiling v n three k ≡ some e) × (e ≡ MalformedBook → ⊥)
     go true p q = (LimitAboveCeiling, fails _ _ _ p, λ x. let z : _≡_ {A = ℕ} 0 1 = cc in omega (arith, z))
     go false p q = (LentTooShort, goes-on _ _ _ _ p (fails _ _ _ q), λ x. let z : _≡_ {A = ℕ} 0 1 = cc in omega (arith, z))
 
-early-apply : (c : Config) (n : Lengths) (w : View) (m : L3Message) → (overCeiling ceiling (c .rules) || tooShort (c .rules) n w) ≡ true → applyOutcome c n false w m ≡ refused
+early-apply : (c : Config) (n : Lengths) (w : View) (m : L3Message) → (overCeiling ceiling (c .rules) || tooShort (c .rules) n (w .segments)) ≡ true → applyOutcome c n false w m ≡ refused
 unfolding applyOutcome gateRefusal settle
-early-apply c n w m h = let e = early (c .rules) n false w h in rw (first-fails _ _ _ _ (e .1))
+early-apply c n w m h = let e = early (c .rules) n false (w .segments) h in rw (first-fails _ _ _ _ (e .1))
 
-early-step : (c : Config) (n : Lengths) (w : View) (h : Handshake) (m : L3Message) → (overCeiling ceiling (c .rules) || tooShort (c .rules) n w) ≡ true → stepOutcome c n false w h m ≡ refused
+early-step : (c : Config) (n : Lengths) (w : View) (h : Handshake) (m : L3Message) → (overCeiling ceiling (c .rules) || tooShort (c .rules) n (w .segments)) ≡ true → stepOutcome c n false w h m ≡ refused
 unfolding stepOutcome stepRefusal stepSettle
-early-step c n w h m q = let e = early (c .rules) n false w q in rw (first-fails _ _ _ _ (e .1))
+early-step c n w h m q = let e = early (c .rules) n false (w .segments) q in rw (first-fails _ _ _ _ (e .1))
 
-early-boot : (c : Config) (n : Lengths) (w : View) (bytes : List ℕ) → (overCeiling ceiling (c .rules) || tooShort (c .rules) n w) ≡ true
+early-boot : (c : Config) (n : Lengths) (w : View) (bytes : List ℕ) → (overCeiling ceiling (c .rules) || tooShort (c .rules) n (w .segments)) ≡ true
     → viewBoot (bootOutcome c n w bytes) (readSnapshot bytes) bytes w ≡ w
 unfolding bootRefusal
-early-boot c n w bytes h = let e = early (c .rules) n false w h in rw (first-fails _ _ _ _ (e .1))
+early-boot c n w bytes h = let e = early (c .rules) n false (w .segments) h in rw (first-fails _ _ _ _ (e .1))
 
-early-refusal : (b : BookReconstructor) (ws sg bytes : List ℕ) (e : StateError) → bookRefusal ceiling b ws sg ≡ some e → refusalOf ceiling b ws sg bytes ≡ some (snapshots.Unusable e)
+early-refusal : (b : BookReconstructor) (ws : List ℕ) (sg : List Segment) (bytes : List ℕ) (e : StateError) → bookRefusal ceiling b ws (length sg) ≡ some e → refusalOf ceiling b ws sg bytes ≡ some (snapshots.Unusable e)
 unfolding bootRefusal
 early-refusal b ws sg bytes e h = first-fails _ _ _ _ h
 
 -- ---- a call and the memory beyond what it is lent
 
-back-length : (k : ℕ) (l a : List ℕ) → length a ≡ length (take k l) → length (a ++ drop k l) ≡ length l
+back-length : {A : Type 0} (k : ℕ) (l a : List A) → length a ≡ length (take k l) → length (a ++ drop k l) ≡ length l
 back-length k l a h =
     length-append a (drop k l) ∙ ap (λ (x : ℕ). x + length (drop k l)) h ∙ sym (length-append (take k l) (drop k l)) ∙ ap length (take-append-drop k l)
 
@@ -102,45 +101,41 @@ module _ (c : Config) (r s : ℕ) (w : World) (v : View) (f : Follows c r s w v)
   abbrev ws : List ℕ
   ws = lentRows n w
 
-  abbrev sg : List ℕ
+  abbrev sg : List Segment
   sg = lentSegments n w
 
   lent-rows : length ws ≡ n .rows
   lent-rows = length-take-le (n .rows) (w .rows) (omega (arith, fits .0, f .wide))
 
-  lent-segments : length sg ≡ 8 * n .segments
-  lent-segments = length-take-le (8 * n .segments) (w .segments) (omega (arith, fits .1, f .long))
+  lent-segments : length sg ≡ n .segments
+  lent-segments = length-take-le (n .segments) (w .segments) (omega (arith, fits .1, f .long))
 
   lengths-are : lengthsOf ws sg ≡ n
-  lengths-are =
-      let q : length sg / 8 ≡ n .segments = omega (arith, lent-segments) in
-      ap₂ (λ (x y : ℕ). record { rows = x; segments = y }) lent-rows q
+  lengths-are = ap₂ (λ (x y : ℕ). record { rows = x; segments = y }) lent-rows lent-segments
 
   -- what a call left, with the memory beyond
-  kept-whole : (b : BookReconstructor) (vs tg : List ℕ) (x : View) → Stands c b vs tg x → Left ws sg b vs tg → Follows c r s (back n w b vs tg) x
+  kept-whole : (b : BookReconstructor) (vs : List ℕ) (tg : List Segment) (x : View) → Stands c b vs tg x → Left ws sg b vs tg → Follows c r s (back n w b vs tg) x
   kept-whole b vs tg x t l =
       record {
         stands =
             record {
               config = t .config;
               view = ap (λ (y : List Entry). record { status = b .status; startSeq = x .startSeq; segments = b .segments; line = y }) (ap lineOf (rows-front vs (drop (n .rows) (w .rows)) (b .rows) (l .room))) ∙ t .view;
-              start = λ z. start-front tg (drop (8 * n .segments) (w .segments)) (b .segments - 1) (omega (arith, l .listed, z)) ∙ t .start z;
+              start = λ z. ap (λ (g : Segment). g .«start_seq») (segment-front tg (drop (n .segments) (w .segments)) (b .segments - 1) (omega (arith, l .listed, z))) ∙ t .start z;
               sound = broken-rows b (vs ++ drop (n .rows) (w .rows)) vs (rows-front vs (drop (n .rows) (w .rows)) (b .rows) (l .room)) ∙ t .sound;
             };
         wide = back-length (n .rows) (w .rows) vs (l .rows) ∙ f .wide;
-        long = back-length (8 * n .segments) (w .segments) tg (l .segments) ∙ f .long;
-        room = omega (arith, l .room, length-append vs (drop (n .rows) (w .rows)));
-        listed = omega (arith, l .listed, length-append tg (drop (8 * n .segments) (w .segments)));
+        long = back-length (n .segments) (w .segments) tg (l .segments) ∙ f .long;
       }
 
   -- nothing moved
   same-whole : Follows c r s (back n w (w .book) ws sg) v
-  same-whole = rw (take-append-drop (n .rows) (w .rows), take-append-drop (8 * n .segments) (w .segments)) f
+  same-whole = rw (take-append-drop (n .rows) (w .rows), take-append-drop (n .segments) (w .segments)) f
 
-  module _ (h : (overCeiling ceiling (c .rules) || tooShort (c .rules) n v) ≡ false) where
+  module _ (h : (overCeiling ceiling (c .rules) || tooShort (c .rules) n (v .segments)) ≡ false) where
     same-rows : rowsOf (w .rows) (w .book .rows) ≡ rowsOf ws (w .book .rows)
     same-rows =
-        let k = or-no (overCeiling ceiling (c .rules)) (tooShort (c .rules) n v) h in
+        let k = or-no (overCeiling ceiling (c .rules)) (tooShort (c .rules) n (v .segments)) h in
         let d = or-no (ltb (n .rows) (8 * c .rules .«max_orders»)) (ltb (n .segments) (v .segments)) (k .1) in
         let m : w .book .rows ≤ w .book .rules .«max_orders» = sound (w .book) (w .rows) (f .stands .sound) .few in
         let e : w .book .rules .«max_orders» ≡ c .rules .«max_orders» = ap (λ (x : Config). x .rules .«max_orders») (f .stands .config) in
@@ -154,40 +149,38 @@ module _ (c : Config) (r s : ℕ) (w : World) (v : View) (f : Follows c r s w v)
 
     few-segments : w .book .segments ≤ n .segments
     few-segments =
-        let k = or-no (overCeiling ceiling (c .rules)) (tooShort (c .rules) n v) h in
+        let k = or-no (overCeiling ceiling (c .rules)) (tooShort (c .rules) n (v .segments)) h in
         let d = or-no (ltb (n .rows) (8 * c .rules .«max_orders»)) (ltb (n .segments) (v .segments)) (k .1) in
         let e : w .book .segments ≡ v .segments = ap (λ (x : View). x .segments) (f .stands .view) in
         omega (arith, e, ltb-false (n .segments) (v .segments) (d .1))
 
-    usable-now : Usable ceiling (w .book) ws sg
+    usable-now : Usable ceiling (w .book) ws (length sg)
     usable-now =
-        let k = or-no (overCeiling ceiling (c .rules)) (tooShort (c .rules) n v) h in
+        let k = or-no (overCeiling ceiling (c .rules)) (tooShort (c .rules) n (v .segments)) h in
         let e : w .book .rules ≡ c .rules = ap (λ (x : Config). x .rules) (f .stands .config) in
         let g : w .book .segments ≡ v .segments = ap (λ (x : View). x .segments) (f .stands .view) in
-        let q : length sg / 8 ≡ n .segments = omega (arith, lent-segments) in
         record {
           within = ap (overCeiling ceiling) e ∙ k .0;
-          lent = ap₂ _||_ (ap₂ ltb lent-rows (ap (λ (x : VenueRules). 8 * x .«max_orders») e)) (ap₂ ltb q g) ∙ k .1;
+          lent = ap₂ _||_ (ap₂ ltb lent-rows (ap (λ (x : VenueRules). 8 * x .«max_orders») e)) (ap₂ ltb lent-segments g) ∙ k .1;
           sound = broken-rows (w .book) ws (w .rows) (sym same-rows) ∙ f .stands .sound;
         }
 
     starts-now : Starts (v .startSeq) (w .book) sg
     starts-now z =
-        sym (start-front sg (drop (8 * n .segments) (w .segments)) (w .book .segments - 1) (omega (arith, few-segments, lent-segments, z)))
-        ∙ ap (λ (x : List ℕ). segmentAt x (w .book .segments - 1) .«start_seq») (take-append-drop (8 * n .segments) (w .segments))
+        ap (λ (g : Segment). g .«start_seq») (sym (segment-front sg (drop (n .segments) (w .segments)) (w .book .segments - 1) (omega (arith, few-segments, lent-segments, z))))
+        ∙ ap (λ (x : List Segment). segmentAt x (w .book .segments - 1) .«start_seq») (take-append-drop (n .segments) (w .segments))
         ∙ f .stands .start z
 
   -- lent too little: 1 or 2, and nothing moves
-  early-own : (overCeiling ceiling (c .rules) || tooShort (c .rules) n v) ≡ true
-      → (e : StateError) × (bookRefusal ceiling (w .book) ws sg ≡ some e) × (e ≡ MalformedBook → ⊥)
+  early-own : (overCeiling ceiling (c .rules) || tooShort (c .rules) n (v .segments)) ≡ true
+      → (e : StateError) × (bookRefusal ceiling (w .book) ws (length sg) ≡ some e) × (e ≡ MalformedBook → ⊥)
   early-own h =
       let e : w .book .rules ≡ c .rules = ap (λ (x : Config). x .rules) (f .stands .config) in
       let g : w .book .segments ≡ v .segments = ap (λ (x : View). x .segments) (f .stands .view) in
-      let q : length sg / 8 ≡ n .segments = omega (arith, lent-segments) in
-      early (w .book .rules) (lengthsOf ws sg) (broken (w .book) ws) (viewOf (w .book) ws sg)
-      (ap₂ _||_ (ap (overCeiling ceiling) e) (ap₂ _||_ (ap₂ ltb lent-rows (ap (λ (x : VenueRules). 8 * x .«max_orders») e)) (ap₂ ltb q g)) ∙ h)
+      early (w .book .rules) (lengthsOf ws sg) (broken (w .book) ws) (w .book .segments)
+      (ap₂ _||_ (ap (overCeiling ceiling) e) (ap₂ _||_ (ap₂ ltb lent-rows (ap (λ (x : VenueRules). 8 * x .«max_orders») e)) (ap₂ ltb lent-segments g)) ∙ h)
 
-  early-applied : (overCeiling ceiling (c .rules) || tooShort (c .rules) n v) ≡ true → (m : L3Message)
+  early-applied : (overCeiling ceiling (c .rules) || tooShort (c .rules) n (v .segments)) ≡ true → (m : L3Message)
       → (applied ceiling (w .book) ws sg m .book ≡ w .book) × (applied ceiling (w .book) ws sg m .rows ≡ ws) × (applied ceiling (w .book) ws sg m .segments ≡ sg)
   early-applied h m =
       let e = early-own h in
@@ -195,18 +188,18 @@ module _ (c : Config) (r s : ℕ) (w : World) (v : View) (f : Follows c r s w v)
       (l .1, l .2, l .3)
 
   -- "3 never arises here"
-  pub never-three : bookRefusal ceiling (w .book) ws sg ≡ some MalformedBook → ⊥
-  never-three x = go (overCeiling ceiling (c .rules) || tooShort (c .rules) n v) refl
+  pub never-three : bookRefusal ceiling (w .book) ws (length sg) ≡ some MalformedBook → ⊥
+  never-three x = go (overCeiling ceiling (c .rules) || tooShort (c .rules) n (v .segments)) refl
     where
-      go : (b : Bool) → (overCeiling ceiling (c .rules) || tooShort (c .rules) n v) ≡ b → ⊥
+      go : (b : Bool) → (overCeiling ceiling (c .rules) || tooShort (c .rules) n (v .segments)) ≡ b → ⊥
       go true h = let e = early-own h in e .2 (some-same (e .0) MalformedBook (sym (e .1) ∙ x))
-      go false h = some-none MalformedBook (sym x ∙ usable-none ceiling (w .book) ws sg (usable-now h))
+      go false h = some-none MalformedBook (sym x ∙ usable-none ceiling (w .book) ws (length sg) (usable-now h))
 
   apply-follows : (m : L3Message) → Follows c r s (perform w (apply n m)) (feedView c v (apply n m))
   unfolding perform feedView
-  apply-follows m = go (overCeiling ceiling (c .rules) || tooShort (c .rules) n v) refl
+  apply-follows m = go (overCeiling ceiling (c .rules) || tooShort (c .rules) n (v .segments)) refl
     where
-      go : (b : Bool) → (overCeiling ceiling (c .rules) || tooShort (c .rules) n v) ≡ b
+      go : (b : Bool) → (overCeiling ceiling (c .rules) || tooShort (c .rules) n (v .segments)) ≡ b
           → Follows c r s (back n w (applied ceiling (w .book) ws sg m .book) (applied ceiling (w .book) ws sg m .rows) (applied ceiling (w .book) ws sg m .segments)) (viewBy m (applyOutcome c n false v m) v)
       go true h = rw (early-apply c n v m h, early-applied h m .0, early-applied h m .1, early-applied h m .2) same-whole
       go false h =
@@ -215,9 +208,9 @@ module _ (c : Config) (r s : ℕ) (w : World) (v : View) (f : Follows c r s w v)
 
   step-follows : (h : Handshake) (m : L3Message) → Follows c r s (perform w (step n h m)) (feedView c v (step n h m))
   unfolding perform feedView
-  step-follows h m = go (overCeiling ceiling (c .rules) || tooShort (c .rules) n v) refl
+  step-follows h m = go (overCeiling ceiling (c .rules) || tooShort (c .rules) n (v .segments)) refl
     where
-      go : (b : Bool) → (overCeiling ceiling (c .rules) || tooShort (c .rules) n v) ≡ b
+      go : (b : Bool) → (overCeiling ceiling (c .rules) || tooShort (c .rules) n (v .segments)) ≡ b
           → Follows c r s (back n w (stepped ceiling h (w .book) ws sg m .book) (stepped ceiling h (w .book) ws sg m .rows) (stepped ceiling h (w .book) ws sg m .segments)) (viewBy m (stepOutcome c n false v h m) v)
       go true q =
           let e = early-own q in
@@ -228,9 +221,9 @@ module _ (c : Config) (r s : ℕ) (w : World) (v : View) (f : Follows c r s w v)
 
   boot-follows : (bytes : List ℕ) → Follows c r s (perform w (bootstrap n bytes)) (feedView c v (bootstrap n bytes))
   unfolding perform feedView
-  boot-follows bytes = go (overCeiling ceiling (c .rules) || tooShort (c .rules) n v) refl
+  boot-follows bytes = go (overCeiling ceiling (c .rules) || tooShort (c .rules) n (v .segments)) refl
     where
-      go : (b : Bool) → (overCeiling ceiling (c .rules) || tooShort (c .rules) n v) ≡ b
+      go : (b : Bool) → (overCeiling ceiling (c .rules) || tooShort (c .rules) n (v .segments)) ≡ b
           → Follows c r s
           (back n w (bootstrapped ceiling (w .book) ws sg bytes .book) (bootstrapped ceiling (w .book) ws sg bytes .rows) (bootstrapped ceiling (w .book) ws sg bytes .segments))
           (viewBoot (bootOutcome c n v bytes) (readSnapshot bytes) bytes v)
@@ -259,15 +252,13 @@ module _ (c : Config) (r s : ℕ) where
   follow-all w v (step n h m ∷ ks) f l = follow-all (perform w (step n h m)) (feedView c v (step n h m)) ks (step-follows c r s w v f n (l .0) h m) (l .1)
   follow-all w v (read q ∷ ks) f l = follow-all w v ks f l
 
-pub fresh-follows : (c : Config) (ws sg : List ℕ) → Follows c (length ws) (length sg) (freshWorld c ws sg) blank
+pub fresh-follows : (c : Config) (ws : List ℕ) (sg : List Segment) → Follows c (length ws) (length sg) (freshWorld c ws sg) blank
 unfolding rowsFrom broken
 fresh-follows c ws sg =
     record {
       stands = record { config = refl; view = refl; start = λ z. absurd (omega (arith, z)); sound = whole };
       wide = refl;
       long = refl;
-      room = omega arith;
-      listed = omega arith;
     }
   where
     whole : broken (newBook (c .product) (c .rules) (c .number)) ws ≡ false
@@ -275,5 +266,5 @@ fresh-follows c ws sg =
         or-both _ _ (le-ltb (c .rules .«max_orders») 0 (omega arith))
         (or-both _ _ (not-broken (c .rules .«max_orders») (c .rules .«max_levels») [] (empty-formed (c .rules .«max_orders») (c .rules .«max_levels»))) refl)
 
-pub line-is : (c : Config) (ws sg : List ℕ) (ks : List Call) → Lendable (length ws) (length sg) ks → lineAt (run (freshWorld c ws sg) ks) ≡ viewAll c blank ks .line
+pub line-is : (c : Config) (ws : List ℕ) (sg : List Segment) (ks : List Call) → Lendable (length ws) (length sg) ks → lineAt (run (freshWorld c ws sg) ks) ≡ viewAll c blank ks .line
 line-is c ws sg ks l = ap (λ (x : View). x .line) (follow-all c (length ws) (length sg) (freshWorld c ws sg) blank ks (fresh-follows c ws sg) l .stands .view)

@@ -1,8 +1,8 @@
 -- A fresh book fed only the calls that count comes to the same line.
 -- Assumes nothing.
-use Prim.Native.Nat.{ℕ, _+_, _*_, _≤_}
+use Prim.Native.Nat.{ℕ, _*_, _≤_}
 use native.Mathlib.Omega.{arith}
-use mathlib.Core.Bool.{false, not}
+use mathlib.Core.Bool.{false}
 use mathlib.Core.Path.{_≡_, refl, ap}
 use mathlib.Core.List.{List, [], _∷_, _++_}
 use mathlib.Core.Option.{Option, none, some}
@@ -42,22 +42,22 @@ pub record Repeats (v w : View) : Type 0 where
   pub up : statusRefusal (v .status) ≡ none → statusRefusal (w .status) ≡ none
 
 -- lent the same, with no more segments
-state-again : (r : VenueRules) (n : Lengths) (v w : View) → w .segments ≤ v .segments → stateRefusal ceiling r n false v ≡ none → stateRefusal ceiling r n false w ≡ none
+state-again : (r : VenueRules) (n : Lengths) (s t : ℕ) → t ≤ s → stateRefusal ceiling r n false s ≡ none → stateRefusal ceiling r n false t ≡ none
 unfolding stateRefusal
-state-again r n v w h q =
+state-again r n s t h q =
     let q₁ = passed _ _ _ q in
     let q₂ = passed _ _ _ (q₁ .1) in
-    let d = or-no (ltb (n .rows) (8 * r .«max_orders»)) (ltb (n .segments) (v .segments)) (q₂ .0) in
+    let d = or-no (ltb (n .rows) (8 * r .«max_orders»)) (ltb (n .segments) s) (q₂ .0) in
     goes-on _ _ _ _ (q₁ .0)
-    (goes-on _ _ _ _ (or-both _ _ (d .0) (le-ltb (n .segments) (w .segments) (omega (arith, h, ltb-false (n .segments) (v .segments) (d .1)))))
+    (goes-on _ _ _ _ (or-both _ _ (d .0) (le-ltb (n .segments) t (omega (arith, h, ltb-false (n .segments) s (d .1)))))
     (goes-on _ _ _ _ refl refl))
 
 -- 2 not said: the list has the segments
-listed-most : (r : VenueRules) (n : Lengths) (v : View) → stateRefusal ceiling r n false v ≡ none → v .segments ≤ n .segments
+listed-most : (r : VenueRules) (n : Lengths) (s : ℕ) → stateRefusal ceiling r n false s ≡ none → s ≤ n .segments
 unfolding stateRefusal
-listed-most r n v q =
-    let d = or-no (ltb (n .rows) (8 * r .«max_orders»)) (ltb (n .segments) (v .segments)) (passed _ _ _ (passed _ _ _ q .1) .0) in
-    ltb-false (n .segments) (v .segments) (d .1)
+listed-most r n s q =
+    let d = or-no (ltb (n .rows) (8 * r .«max_orders»)) (ltb (n .segments) s) (passed _ _ _ (passed _ _ _ q .1) .0) in
+    ltb-false (n .segments) s (d .1)
 
 outcome : (c : Config) (n : Lengths) (w : View) (m : L3Message) → gateRefusal ceiling (c .product) (c .rules) n false w m ≡ none
     → turnRefusal (c .rules) (w .line) (lastOf (w .status)) m ≡ none → applyOutcome c n false w m ≡ accepted
@@ -81,7 +81,7 @@ module _ (c : Config) (n : Lengths) (v w : View) (r : Repeats v w) (m : L3Messag
   gate-again h =
       let q = first-passed _ _ _ h in
       let s = admit-status (c .product) (v .status) m (q .1) in
-      (s, first-on _ _ _ _ (state-again (c .rules) n v w (r .fewer) (q .0)) (admit-again (c .product) (v .status) (w .status) m (r .up s) (q .1)))
+      (s, first-on _ _ _ _ (state-again (c .rules) n (v .segments) (w .segments) (r .fewer) (q .0)) (admit-again (c .product) (v .status) (w .status) m (r .up s) (q .1)))
 
   apply-again : applyOutcome c n false v m ≡ accepted → Repeats (viewBy m accepted v) (feedView c w (apply n m))
   unfolding feedView
@@ -105,7 +105,7 @@ module _ (c : Config) (n : Lengths) (v : View) (bytes : List ℕ) where
   unfolding bootRefusal
   boot-again h =
       let q = first-passed _ _ _ h in
-      first-on _ _ _ _ (state-again (c .rules) n v blank (omega arith) (q .0)) (piece-again (readSnapshot bytes) (listed-most (c .rules) n v (q .0)) (q .1))
+      first-on _ _ _ _ (state-again (c .rules) n (v .segments) 0 (omega arith) (q .0)) (piece-again (readSnapshot bytes) (listed-most (c .rules) n (v .segments) (q .0)) (q .1))
 
 by-repeats : (c : Config) (n : Lengths) (m : L3Message) (v : View) (ks : List Call) (o : Outcome) → (o ≡ accepted → applyOutcome c n false v m ≡ accepted)
     → Repeats v (viewAll c blank ks) → Repeats (viewBy m o v) (viewAll c blank (keptBy o ks (apply n m)))

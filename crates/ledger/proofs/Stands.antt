@@ -1,13 +1,16 @@
--- What a state with its lent words stands for in the ledger's view, and that each call keeps it.
+-- What a state with its lent memory stands for in the ledger's view, and that each call keeps it.
 -- Assumes nothing.
-use Prim.Native.Nat.{ℕ, _+_, _*_, _-_, _≤_, _<_}
+use Prim.Native.Nat.{ℕ, zero, suc, _+_, _*_, _-_, _≤_, _<_}
 use native.Mathlib.Omega.{arith}
-use mathlib.Core.Bool.{Bool, true, false, not, cond}
+use mathlib.Core.Bool.{Bool, true, false, not, _||_, cond}
 use mathlib.Core.Path.{_≡_, refl, sym, ap, subst, _∙_}
-use mathlib.Core.List.{List, _++_, map}
+use mathlib.Core.List.{List, [], _∷_, _++_, map}
 use mathlib.Core.Option.{Option, none, some}
-use lib.ListN.{length, getD, length-map, List·getD-append}
-use Rattle.laws.proofs.Splice.{splice-in}
+use borrow.Author.Tests.{eqb-false}
+use lib.Dec.{eqb}
+use lib.ListN.{length, set, length-map, List·getD-append}
+use lib.Seq.{getD-set-same}
+use Rattle.laws.proofs.Bools.{or-no}
 use Rattle.message.specs.declared.L3Message.{L3Message}
 use Rattle.book.specs.Line.{Entry}
 use Rattle.book.specs.Rows.{ceiling, rowAt, rowsOf, lineOf, stored, snapshotRow}
@@ -18,17 +21,17 @@ use Rattle.reconstructor_answers.specs.declared.ApplyAnswer.{ApplyAnswer}
 use Rattle.reconstructor_answers.specs.declared.ApplyAnswer.the-variants as answers
 use Rattle.reconstructor_answers.specs.declared.InvalidationKind.{InvalidationKind}
 use Rattle.reconstructor_segments.specs.declared.Segment.{Segment}
-use Rattle.reconstructor_segments.specs.Segments.{segmentAt, segmentWords, setSegment, started}
+use Rattle.reconstructor_segments.specs.Segments.{noSegment, segmentAt, sameSegment, started}
 use Rattle.reconstructor_state.specs.declared.Status.the-variants.{Valid}
 use Rattle.reconstructor_state.specs.declared.BookReconstructor.{BookReconstructor}
 use Rattle.reconstructor_state.specs.State.{View, viewOf, lengthsOf, lastOf, withCounts}
 use Rattle.reconstructor_state.proofs.Checks.{fails, goes-on, first-on}
 use Rattle.reconstructor_checks.specs.Own.{Usable, broken, stateRefusal}
-use Rattle.reconstructor_checks.proofs.Own.{usable-none, sound, has-segment, segments-lent}
-use Rattle.reconstructor.specs.Refusals.{admitRefusal, gateRefusal, turnRefusal}
+use Rattle.reconstructor_checks.proofs.Own.{usable-none}
+use Rattle.reconstructor.specs.Refusals.{gateRefusal, turnRefusal}
 use Rattle.reconstructor.specs.Applied.{refusedBook, refusedReply, invalidatedReply, acceptedReply, accepted as acceptedCore, recorded, nextSegment, settled, gated, bookGate, applied}
 use Rattle.reconstructor.proofs.Kept.{refusal-counts, usable-kept, accepted-line}
-use Rattle.reconstructor.proofs.Laws.{gate-trusted, admitted-valid}
+use Rattle.reconstructor.proofs.Laws.{gate-trusted}
 use Rattle.message.specs.declared.L3Snapshot.{L3Snapshot}
 use Rattle.message.specs.Values.{eventInRange}
 use Rattle.piece.specs.declared.ReadSnapshot.{ReadSnapshot}
@@ -42,7 +45,7 @@ use Rattle.reconstructor_bootstrap.specs.Bootstrap.{Parts as SnapshotParts, ref
 use Rattle.reconstructor_bootstrap.proofs.Laws.{refusalOf, refused-is, counts-alone, is-accepted, accepted-usable, length-closed}
 use Rattle.reconstructor_handshake.specs.declared.Handshake.{Handshake}
 use Rattle.reconstructor_handshake.specs.Step.{StepParts, otherSegment, stepRefusal, drops, stepped}
-use Rattle.reconstructor_handshake.proofs.Step.{other-step, out-of-range-step, in-segment, dropped-step, decided-step}
+use Rattle.reconstructor_handshake.proofs.Step.{other-step, out-of-range-step, dropped-step, decided-step}
 use Rattle.ledger.specs.Ledger.{Config, Outcome, refused, invalidates, dropped, accepted, settle, applyOutcome, stepSettle, stepOutcome, bootOutcome, viewBy, viewBoot, snapView}
 
 abbrev pub configOf : BookReconstructor → Config
@@ -52,16 +55,16 @@ configOf b = record { product = b .«product_id»; rules = b .rules; number = b 
 abbrev pub seen : ℕ → BookReconstructor → List ℕ → View
 seen start b ws = record { status = b .status; startSeq = start; segments = b .segments; line = lineOf (rowsOf ws (b .rows)) }
 
-abbrev pub Starts : ℕ → BookReconstructor → List ℕ → Type 0
+abbrev pub Starts : ℕ → BookReconstructor → List Segment → Type 0
 Starts start b sg = 0 < b .segments → segmentAt sg (b .segments - 1) .«start_seq» ≡ start
 
-pub record Stands (c : Config) (b : BookReconstructor) (ws sg : List ℕ) (v : View) : Type 0 where
+pub record Stands (c : Config) (b : BookReconstructor) (ws : List ℕ) (sg : List Segment) (v : View) : Type 0 where
   pub config : configOf b ≡ c
   pub view : seen (v .startSeq) b ws ≡ v
   pub start : Starts (v .startSeq) b sg
   pub sound : broken b ws ≡ false
 
-stands-at : (c : Config) (b : BookReconstructor) (ws sg : List ℕ) (v : View) (s : ℕ) → v .startSeq ≡ s → configOf b ≡ c → seen s b ws ≡ v → Starts s b sg
+stands-at : (c : Config) (b : BookReconstructor) (ws : List ℕ) (sg : List Segment) (v : View) (s : ℕ) → v .startSeq ≡ s → configOf b ≡ c → seen s b ws ≡ v → Starts s b sg
     → broken b ws ≡ false → Stands c b ws sg v
 stands-at c b ws sg v s e p q r h = record { config = p; view = ap (λ (x : ℕ). seen x b ws) e ∙ q; start = λ z. r z ∙ sym e; sound = h }
 
@@ -79,16 +82,15 @@ row-front a b i h = row-same (a ++ b) a i i (λ f q. List·getD-append a b 0 (8 
 pub rows-front : (a b : List ℕ) (n : ℕ) → 8 * n ≤ length a → rowsOf (a ++ b) n ≡ rowsOf a n
 rows-front a b n h = rows-same (a ++ b) a 0 0 n (λ f q. row-front a b (0 + f) (omega arith))
 
-pub start-front : (a b : List ℕ) (i : ℕ) → 8 * i + 8 ≤ length a → segmentAt (a ++ b) i .«start_seq» ≡ segmentAt a i .«start_seq»
-start-front a b i h = List·getD-append a b 0 (8 * i) (omega arith)
+pub segment-front : (a b : List Segment) (i : ℕ) → i < length a → segmentAt (a ++ b) i ≡ segmentAt a i
+segment-front a b i h = List·getD-append a b noSegment i h
 
--- ---- a record replaced has its own start
+-- ---- a record replaced by one of its start keeps the start; past the end nothing is replaced
 
-start-set : (sg : List ℕ) (i : ℕ) (g : Segment) → 8 * i + 8 ≤ length sg → segmentAt (setSegment sg i g) i .«start_seq» ≡ g .«start_seq»
-unfolding setSegment
-start-set sg i g h =
-    let e : 8 * i + 0 ≡ 8 * i = omega arith in
-    ap (λ (x : ℕ). getD (setSegment sg i g) x 0) (sym e) ∙ splice-in sg (segmentWords g) (8 * i) (8 * i + 8) refl h 0 0 (omega arith)
+start-set : (sg : List Segment) (i : ℕ) (g : Segment) → g .«start_seq» ≡ segmentAt sg i .«start_seq» → segmentAt (set sg i g) i .«start_seq» ≡ segmentAt sg i .«start_seq»
+start-set [] i g h = refl
+start-set (x ∷ sg) zero g h = h
+start-set (x ∷ sg) (suc i) g h = start-set sg i g h
 
 next-start : (g : Segment) (a : ApplyAnswer) (seq time : ℕ) → nextSegment g a seq time .«start_seq» ≡ g .«start_seq»
 next-start g (answers.Applied x) seq time = refl
@@ -99,17 +101,15 @@ next-start g answers.NotBootstrapped seq time = refl
 next-start g (answers.Invalidated i) seq time = refl
 next-start g (answers.AwaitingSnapshot i) seq time = refl
 
-recorded-start : (sg : List ℕ) (n : ℕ) (m : L3Message) (a : ApplyAnswer) → 0 < n → 8 * n ≤ length sg
-    → segmentAt (recorded sg n m a) (n - 1) .«start_seq» ≡ segmentAt sg (n - 1) .«start_seq»
+recorded-start : (sg : List Segment) (n : ℕ) (m : L3Message) (a : ApplyAnswer) → segmentAt (recorded sg n m a) (n - 1) .«start_seq» ≡ segmentAt sg (n - 1) .«start_seq»
 unfolding recorded
-recorded-start sg n m a p h =
-    start-set sg (n - 1) _ (omega arith) ∙ next-start (segmentAt sg (n - 1)) a (m .sequence) (m .«time_us»)
+recorded-start sg n m a = start-set sg (n - 1) _ (next-start (segmentAt sg (n - 1)) a (m .sequence) (m .«time_us»))
 
-own-none : (b : BookReconstructor) (ws sg : List ℕ) (s : ℕ) → Usable ceiling b ws sg → stateRefusal ceiling (b .rules) (lengthsOf ws sg) false (seen s b ws) ≡ none
+own-none : (b : BookReconstructor) (ws : List ℕ) (sg : List Segment) → Usable ceiling b ws (length sg) → stateRefusal ceiling (b .rules) (lengthsOf ws sg) false (b .segments) ≡ none
 unfolding stateRefusal
-own-none b ws sg s u = goes-on _ _ _ _ (u .within) (goes-on _ _ _ _ (u .lent) (goes-on _ _ _ _ refl refl))
+own-none b ws sg u = goes-on _ _ _ _ (u .within) (goes-on _ _ _ _ (u .lent) (goes-on _ _ _ _ refl refl))
 
-accept-same : (b : BookReconstructor) (ws sg : List ℕ) (s : ℕ) (x : L3Snapshot) (bytes : List ℕ)
+accept-same : (b : BookReconstructor) (ws : List ℕ) (sg : List Segment) (s : ℕ) (x : L3Snapshot) (bytes : List ℕ)
     → acceptRefusal (b .«product_id») (b .rules) (lengthsOf ws sg) (viewOf b ws sg) x (snapshotLine x bytes)
     ≡ acceptRefusal (b .«product_id») (b .rules) (lengthsOf ws sg) (seen s b ws) x (snapshotLine x bytes)
 unfolding acceptRefusal
@@ -117,14 +117,14 @@ accept-same b ws sg s x bytes = refl
 
 -- ---- `apply`, lent enough
 
-module _ (b : BookReconstructor) (ws sg : List ℕ) (s : ℕ) (u : Usable ceiling b ws sg) (st : Starts s b sg) (m : L3Message) where
+module _ (b : BookReconstructor) (ws : List ℕ) (sg : List Segment) (s : ℕ) (u : Usable ceiling b ws (length sg)) (st : Starts s b sg) (m : L3Message) where
   -- the ledger meets the same number
   outcome-same : applyOutcome (configOf b) (lengthsOf ws sg) false (seen s b ws) m
       ≡ settle (bookGate ceiling b ws sg m) (turnRefusal (b .rules) (lineOf (rowsOf ws (b .rows))) (lastOf (b .status)) m)
   unfolding applyOutcome gateRefusal
   outcome-same =
       ap (λ (o : Option ApplyAnswer). settle o (turnRefusal (b .rules) (lineOf (rowsOf ws (b .rows))) (lastOf (b .status)) m))
-      (first-on _ _ _ _ (own-none b ws sg s u) refl ∙ sym (gate-trusted ceiling b ws sg m u))
+      (first-on _ _ _ _ (own-none b ws sg u) refl ∙ sym (gate-trusted ceiling b ws sg m u))
 
   abbrev Facts : Option ApplyAnswer → Option InvalidationKind → Type 0
   Facts o t =
@@ -141,46 +141,38 @@ module _ (b : BookReconstructor) (ws sg : List ℕ) (s : ℕ) (u : Usable ceilin
         subst (λ (x : BookReconstructor). Starts s x sg) (sym e) st,
       )
 
-  module _ (g : admitRefusal (b .«product_id») (b .status) m ≡ none) where
-    has-one : 0 < b .segments
-    has-one = has-segment b (lastOf (b .status)) (admitted-valid (b .«product_id») (b .status) m g) (sound b ws (u .sound) .set)
+  abbrev Turns : Option InvalidationKind → Type 0
+  Turns t =
+      (configOf (settled b ws (lastOf (b .status)) m t .book) ≡ configOf b)
+      × (seen s (settled b ws (lastOf (b .status)) m t .book) (settled b ws (lastOf (b .status)) m t .rows) ≡ viewBy m (settle none t) (seen s b ws))
+      × Starts s (settled b ws (lastOf (b .status)) m t .book) (recorded sg (b .segments) m (settled b ws (lastOf (b .status)) m t .answer))
 
-    fits : 8 * b .segments ≤ length sg
-    fits = omega (arith, segments-lent b ws sg (u .lent))
+  turn-facts : (t : Option InvalidationKind) → turnRefusal (b .rules) (lineOf (rowsOf ws (b .rows))) (lastOf (b .status)) m ≡ t → Turns t
+  unfolding settled settle invalidatedReply acceptedCore acceptedReply
+  turn-facts (some k) q = (refl, refl, λ p. recorded-start sg (b .segments) m _ ∙ st p)
+  turn-facts none q = (
+    refl,
+    ap (λ (l : List Entry). record { status = Valid (m .sequence); startSeq = s; segments = b .segments; line = l }) (rw q at (accepted-line b ws (lastOf (b .status)) m q)),
+    λ p. recorded-start sg (b .segments) m _ ∙ st p,
+  )
 
-    abbrev Turns : Option InvalidationKind → Type 0
-    Turns t =
-        (configOf (settled b ws (lastOf (b .status)) m t .book) ≡ configOf b)
-        × (seen s (settled b ws (lastOf (b .status)) m t .book) (settled b ws (lastOf (b .status)) m t .rows) ≡ viewBy m (settle none t) (seen s b ws))
-        × Starts s (settled b ws (lastOf (b .status)) m t .book) (recorded sg (b .segments) m (settled b ws (lastOf (b .status)) m t .answer))
-
-    turn-facts : (t : Option InvalidationKind) → turnRefusal (b .rules) (lineOf (rowsOf ws (b .rows))) (lastOf (b .status)) m ≡ t → Turns t
-    unfolding settled settle invalidatedReply acceptedCore acceptedReply
-    turn-facts (some k) q = (refl, refl, λ p. recorded-start sg (b .segments) m _ p fits ∙ st p)
-    turn-facts none q = (
-      refl,
-      ap (λ (l : List Entry). record { status = Valid (m .sequence); startSeq = s; segments = b .segments; line = l }) (rw q at (accepted-line b ws (lastOf (b .status)) m q)),
-      λ p. recorded-start sg (b .segments) m _ p fits ∙ st p,
-    )
-
-  gated-facts : (o : Option ApplyAnswer) → admitRefusal (b .«product_id») (b .status) m ≡ o
-      → Facts o (turnRefusal (b .rules) (lineOf (rowsOf ws (b .rows))) (lastOf (b .status)) m)
+  gated-facts : (o : Option ApplyAnswer) → Facts o (turnRefusal (b .rules) (lineOf (rowsOf ws (b .rows))) (lastOf (b .status)) m)
   unfolding gated
-  gated-facts (some a) q = refused-facts a _
-  gated-facts none q = turn-facts q (turnRefusal (b .rules) (lineOf (rowsOf ws (b .rows))) (lastOf (b .status)) m) refl
+  gated-facts (some a) = refused-facts a _
+  gated-facts none = turn-facts (turnRefusal (b .rules) (lineOf (rowsOf ws (b .rows))) (lastOf (b .status)) m) refl
 
   pub apply-stands : Stands (configOf b) (applied ceiling b ws sg m .book) (applied ceiling b ws sg m .rows) (applied ceiling b ws sg m .segments)
       (viewBy m (applyOutcome (configOf b) (lengthsOf ws sg) false (seen s b ws) m) (seen s b ws))
   unfolding applied
   apply-stands =
       let o : Outcome = settle (bookGate ceiling b ws sg m) (turnRefusal (b .rules) (lineOf (rowsOf ws (b .rows))) (lastOf (b .status)) m) in
-      let f = gated-facts (bookGate ceiling b ws sg m) (sym (gate-trusted ceiling b ws sg m u)) in
+      let f = gated-facts (bookGate ceiling b ws sg m) in
       rw outcome-same
       (stands-at (configOf b) _ _ _ (viewBy m o (seen s b ws)) s (start-kept m o (seen s b ws)) (f .0) (f .1) (f .2) (usable-kept ceiling b ws sg u m .sound))
 
 -- ---- a handshake step, lent enough
 
-module _ (b : BookReconstructor) (ws sg : List ℕ) (s : ℕ) (u : Usable ceiling b ws sg) (st : Starts s b sg) (h : Handshake) (m : L3Message) where
+module _ (b : BookReconstructor) (ws : List ℕ) (sg : List Segment) (s : ℕ) (u : Usable ceiling b ws (length sg)) (st : Starts s b sg) (h : Handshake) (m : L3Message) where
   abbrev outcome : Outcome
   outcome = stepOutcome (configOf b) (lengthsOf ws sg) false (seen s b ws) h m
 
@@ -194,20 +186,23 @@ module _ (b : BookReconstructor) (ws sg : List ℕ) (s : ℕ) (u : Usable ceilin
   module _ (p : otherSegment h (segmentOf b) (b .segments) ≡ true) where
     other-outcome : outcome ≡ refused
     unfolding stepOutcome stepRefusal stepSettle
-    other-outcome = rw (first-on _ _ _ _ (own-none b ws sg s u) (fails _ _ _ p))
+    other-outcome = rw (first-on _ _ _ _ (own-none b ws sg u) (fails _ _ _ p))
 
   module _ (p : otherSegment h (segmentOf b) (b .segments) ≡ false) where
     range-outcome : not (eventInRange (m .event)) ≡ true → outcome ≡ refused
     unfolding stepOutcome stepRefusal stepSettle
-    range-outcome q = rw (first-on _ _ _ _ (own-none b ws sg s u) (goes-on _ _ _ _ p (fails _ _ _ q)))
+    range-outcome q = rw (first-on _ _ _ _ (own-none b ws sg u) (goes-on _ _ _ _ p (fails _ _ _ q)))
 
     same-start : viewOf b ws sg .startSeq ≡ s
-    same-start = st (in-segment h b ws sg m u p)
+    same-start =
+        let k = or-no (h .ended) (eqb (b .segments) 0 || not (sameSegment (h .segment) (segmentOf b))) p in
+        let z : b .segments ≡ 0 → ⊥ = eqb-false (b .segments) 0 (or-no (eqb (b .segments) 0) (not (sameSegment (h .segment) (segmentOf b))) (k .1) .0) in
+        st (omega (arith, z))
 
     module _ (q : not (eventInRange (m .event)) ≡ false) where
       through : outcome ≡ cond (drops (b .«product_id») s m) dropped (applyOutcome (configOf b) (lengthsOf ws sg) false (seen s b ws) m)
       unfolding stepOutcome stepRefusal stepSettle
-      through = rw (first-on _ _ _ _ (own-none b ws sg s u) (goes-on _ _ _ _ p (goes-on _ _ _ _ q refl)))
+      through = rw (first-on _ _ _ _ (own-none b ws sg u) (goes-on _ _ _ _ p (goes-on _ _ _ _ q refl)))
 
   pub step-stands : StepStands outcome (stepped ceiling h b ws sg m)
   step-stands = go₁ (otherSegment h (segmentOf b) (b .segments)) refl
@@ -230,17 +225,14 @@ module _ (b : BookReconstructor) (ws sg : List ℕ) (s : ℕ) (u : Usable ceilin
 
 -- ---- `bootstrap`, lent enough
 
-module _ (b : BookReconstructor) (ws sg : List ℕ) (s : ℕ) (u : Usable ceiling b ws sg) (st : Starts s b sg) (bytes : List ℕ) where
+module _ (b : BookReconstructor) (ws : List ℕ) (sg : List Segment) (s : ℕ) (u : Usable ceiling b ws (length sg)) (st : Starts s b sg) (bytes : List ℕ) where
   abbrev BootStands : Option SnapshotAnswer → SnapshotParts → Type 0
   BootStands o p = Stands (configOf b) (p .book) (p .rows) (p .segments) (viewBoot o (readSnapshot bytes) bytes (seen s b ws))
 
   boot-same : bootOutcome (configOf b) (lengthsOf ws sg) (seen s b ws) bytes ≡ refusalOf ceiling b ws sg bytes
   unfolding bootRefusal
-  boot-same = first-on _ _ _ _ own-too refl ∙ sym (first-on _ _ _ _ (usable-none ceiling b ws sg u) (piece-same (readSnapshot bytes)))
+  boot-same = first-on _ _ _ _ (own-none b ws sg u) refl ∙ sym (first-on _ _ _ _ (usable-none ceiling b ws (length sg) u) (piece-same (readSnapshot bytes)))
     where
-      own-too : stateRefusal ceiling (b .rules) (lengthsOf ws sg) false (seen s b ws) ≡ none
-      own-too = own-none b ws sg s u
-
       piece-same : (r : ReadSnapshot)
           → pieceRefusal (b .«product_id») (b .rules) (lengthsOf ws sg) (viewOf b ws sg) r bytes ≡ pieceRefusal (b .«product_id») (b .rules) (lengthsOf ws sg) (seen s b ws) r bytes
       piece-same (pieces.Refused e) = refl
@@ -275,10 +267,10 @@ module _ (b : BookReconstructor) (ws sg : List ℕ) (s : ℕ) (u : Usable ceilin
       left-start : Starts (x .sequence) (left .book) (left .segments)
       left-start z =
           let a = is-accepted ceiling b ws sg bytes q in
-          let c = length-closed (b .status) sg (b .segments) (omega (arith, a .room)) (λ last y. has-segment b last y (sound b ws (u .sound) .set)) in
+          let c = length-closed (b .status) sg (b .segments) in
           let k : b .segments + 1 - 1 ≡ b .segments = omega arith in
           ap (λ (i : ℕ). segmentAt (left .segments) i .«start_seq») k
-          ∙ start-set (closed (b .status) sg (b .segments)) (b .segments) (started (x .sequence)) (omega (arith, a .room, c))
+          ∙ ap (λ (g : Segment). g .«start_seq») (getD-set-same (closed (b .status) sg (b .segments)) (b .segments) (started (x .sequence)) noSegment (omega (arith, a .room, c)))
 
       left-stands : Stands (configOf b) (left .book) (left .rows) (left .segments) (snapView x bytes (seen s b ws))
       left-stands =

@@ -8,6 +8,7 @@ use Rattle.message.specs.declared.L3Side.{L3Side}
 use Rattle.message.specs.Amounts.{natOf}
 use Rattle.book.specs.Line.{Entry, volume, queue}
 use Rattle.book_levels.specs.Levels.{prices}
+use Rattle.reconstructor_segments.specs.declared.Segment.{Segment}
 use Rattle.reconstructor_state.specs.State.{View}
 use Rattle.ledger.specs.Ledger.{Config, Call, bootstrap, apply, step, read, Ledger, blank, fresh, feed, feedAll}
 use Rattle.ledger.specs.World.{World, run, Lendable, freshWorld, lineAt}
@@ -34,7 +35,7 @@ lend-front r s (read q ∷ a) b l = lend-front r s a b l
 alike : (w x : World) → lineAt w ≡ lineAt x → Alike w x
 alike w x e = record { volumes = λ s p. ap (volume s p) e; queues = λ s p. ap (queue s p) e }
 
-module _ (c : Config) (ws sg : List ℕ) where
+module _ (c : Config) (ws : List ℕ) (sg : List Segment) where
   standing-is : (ks : List Call) → Lendable (length ws) (length sg) ks → standingAt (run (freshWorld c ws sg) ks) ≡ standingOf (viewAll c blank ks .status)
   standing-is ks l =
       ap (λ (x : View). standingOf (x .status)) (follow-all c (length ws) (length sg) (freshWorld c ws sg) blank ks (fresh-follows c ws sg) l .stands .view)

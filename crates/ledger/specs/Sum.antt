@@ -15,6 +15,7 @@ use Rattle.book.specs.Rows.{ceiling}
 use Rattle.book_levels.specs.Levels.{prices}
 use Rattle.book_valid.specs.declared.AuditAnswer.{AuditAnswer}
 use Rattle.reconstructor_answers.specs.declared.StateError.the-variants.{MalformedBook}
+use Rattle.reconstructor_segments.specs.declared.Segment.{Segment}
 use Rattle.reconstructor_state.specs.declared.BookReconstructor.{BookReconstructor}
 use Rattle.reconstructor_state.specs.State.{Lengths}
 use Rattle.reconstructor_checks.specs.Own.{bookRefusal}
@@ -105,18 +106,18 @@ pub record Fallen (c : Config) (start : World) (ks : List Call) : Type 0 where
   pub stale : Alike (run start ks) (run start before)
   pub stale-read : StaleRead (run start ks) (run start before)
 
--- the calls `ks` on a fresh book of the product, rules and number `c`, with any words `ws` and `sg` in its memory
-pub record SumRule (c : Config) (ws sg : List ℕ) (ks : List Call) : Type 0 where
+-- the calls `ks` on a fresh book of the product, rules and number `c`, with any words `ws` and records `sg` in its memory
+pub record SumRule (c : Config) (ws : List ℕ) (sg : List Segment) (ks : List Call) : Type 0 where
   -- "the volume at each side and price .. equal a ledger's"
   pub volumes : (s : L3Side) (p : ℕ) → volumeAt s p (run (freshWorld c ws sg) ks) ≡ feedAll c fresh ks .figure s p
   -- "and the queue order there"
   pub queues : (s : L3Side) (p : ℕ) → queueAt s p (run (freshWorld c ws sg) ks) ≡ queue s p (feedAll c fresh ks .view .line)
-  -- both are those of a fresh book, with any words in its memory, fed the last accepted snapshot and the messages accepted since, lent as much at each call
-  pub afresh : (ws′ sg′ : List ℕ) → Lendable (length ws′) (length sg′) (kept c ks) → Alike (run (freshWorld c ws sg) ks) (run (freshWorld c ws′ sg′) (kept c ks))
+  -- both are those of a fresh book, with any words and records in its memory, fed the last accepted snapshot and the messages accepted since, lent as much at each call
+  pub afresh : (ws′ : List ℕ) (sg′ : List Segment) → Lendable (length ws′) (length sg′) (kept c ks) → Alike (run (freshWorld c ws sg) ks) (run (freshWorld c ws′ sg′) (kept c ks))
   -- from the invalidating message to the next accepted snapshot the rows are those that stood before it
   pub fallen : standingAt (run (freshWorld c ws sg) ks) ≡ invalid → Fallen c (freshWorld c ws sg) ks
   -- "3 never arises here": whatever the next call is lent
   pub never-three : (n : Lengths) → Fits (length ws) (length sg) n
-      → bookRefusal ceiling (run (freshWorld c ws sg) ks .book) (lentRows n (run (freshWorld c ws sg) ks)) (lentSegments n (run (freshWorld c ws sg) ks)) ≡ some MalformedBook → ⊥
+      → bookRefusal ceiling (run (freshWorld c ws sg) ks .book) (lentRows n (run (freshWorld c ws sg) ks)) (length (lentSegments n (run (freshWorld c ws sg) ks))) ≡ some MalformedBook → ⊥
   -- the reads of that book
   pub reads : Read (run (freshWorld c ws sg) ks) (feedAll c fresh ks)

@@ -1,12 +1,13 @@
--- One book as its host holds it: the state by value, and the memory that each call is lent the first words of. 01, The ledger: "A fresh book has no snapshot and
+-- One book as its host holds it: the state by value, and the memory that each call is lent the front of. 01, The ledger: "A fresh book has no snapshot and
 -- any words in its memory".
-use Prim.Native.Nat.{ℕ, _*_, _≤_}
+use Prim.Native.Nat.{ℕ, _≤_}
 use mathlib.Core.List.{List, [], _∷_, _++_}
 use lib.ListN.{take, drop}
 use Rattle.message.specs.declared.L3Side.{L3Side}
 use Rattle.message.specs.declared.OrderId.{OrderId}
 use Rattle.book.specs.Line.{Entry, volume, queue}
 use Rattle.book.specs.Rows.{ceiling, rowsOf, lineOf}
+use Rattle.reconstructor_segments.specs.declared.Segment.{Segment}
 use Rattle.reconstructor_state.specs.declared.BookReconstructor.{BookReconstructor}
 use Rattle.reconstructor_state.specs.State.{Lengths, newBook}
 use Rattle.reconstructor.specs.Applied.{applied}
@@ -14,22 +15,22 @@ use Rattle.reconstructor_bootstrap.specs.Bootstrap.{bootstrapped}
 use Rattle.reconstructor_handshake.specs.Step.{stepped}
 use Rattle.ledger.specs.Ledger.{Config, Call, bootstrap, apply, step, read}
 
--- the state, the words of rows and the words of segment records, eight a record
+-- the state, the words of rows and the segment records
 pub record World : Type 0 where
   pub book : BookReconstructor
   pub rows : List ℕ
-  pub segments : List ℕ
+  pub segments : List Segment
 
 -- a call is lent a prefix
 abbrev pub lentRows : Lengths → World → List ℕ
 lentRows n w = take (n .rows) (w .rows)
 
-abbrev pub lentSegments : Lengths → World → List ℕ
-lentSegments n w = take (8 * n .segments) (w .segments)
+abbrev pub lentSegments : Lengths → World → List Segment
+lentSegments n w = take (n .segments) (w .segments)
 
 -- the next one sees what the last left
-abbrev pub back : Lengths → World → BookReconstructor → List ℕ → List ℕ → World
-back n w b ws sg = record { book = b; rows = ws ++ drop (n .rows) (w .rows); segments = sg ++ drop (8 * n .segments) (w .segments) }
+abbrev pub back : Lengths → World → BookReconstructor → List ℕ → List Segment → World
+back n w b ws sg = record { book = b; rows = ws ++ drop (n .rows) (w .rows); segments = sg ++ drop (n .segments) (w .segments) }
 
 unfoldable pub perform : World → Call → World
 perform w (bootstrap n bytes) =
@@ -49,13 +50,13 @@ abbrev pub run : World → List Call → World
 run w [] = w
 run w (k ∷ ks) = run (perform w k) ks
 
--- any words in its memory
-abbrev pub freshWorld : Config → List ℕ → List ℕ → World
+-- any words and records in its memory
+abbrev pub freshWorld : Config → List ℕ → List Segment → World
 freshWorld c ws sg = record { book = newBook (c .product) (c .rules) (c .number); rows = ws; segments = sg }
 
 -- a call is lent no more words of rows, and no more records, than there are
 abbrev pub Fits : ℕ → ℕ → Lengths → Type 0
-Fits r s n = (n .rows ≤ r) × (8 * n .segments ≤ s)
+Fits r s n = (n .rows ≤ r) × (n .segments ≤ s)
 
 abbrev pub Lendable : ℕ → ℕ → List Call → Type 0
 Lendable r s [] = Unit {0}

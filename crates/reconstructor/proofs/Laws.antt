@@ -15,14 +15,15 @@ use Rattle.reconstructor_state.specs.declared.Status.{Status}
 use Rattle.reconstructor_state.specs.declared.Status.the-variants.{Empty, Valid, Invalidated}
 use Rattle.reconstructor_state.specs.declared.BookReconstructor.{BookReconstructor}
 use Rattle.reconstructor_state.specs.State.{lastOf}
-use Rattle.reconstructor_checks.specs.Own.{bookRefusal, Usable}
+use Rattle.reconstructor_segments.specs.declared.Segment.{Segment}
+use Rattle.reconstructor_checks.specs.Own.{bookRefusal, Usable, Trusted}
 use Rattle.reconstructor_plan.specs.Rules.{Deed}
 use Rattle.reconstructor_plan.specs.Plans.{Ready}
 use Rattle.reconstructor.specs.declared.Reply.{Reply}
 use Rattle.reconstructor.specs.Refusals.{statusRefusal, admitRefusal, gateRefusal}
-use Rattle.reconstructor.specs.Applied.{Core, core, leaves, withSegments, recorded, acceptedReply, accepted, bookGate}
+use Rattle.reconstructor.specs.Applied.{core, acceptedReply, accepted, bookGate}
 use Rattle.reconstructor_state.proofs.Checks.{passed, first-fails, first-on}
-use Rattle.reconstructor_checks.proofs.Own.{sound, orders-within, rows-lent, segments-lent, usable-none, has-segment}
+use Rattle.reconstructor_checks.proofs.Own.{sound, orders-within, usable-none}
 
 -- ---- a plan committed
 
@@ -35,24 +36,20 @@ commits b ws seq d r vs n e l w =
 
 -- ---- the gate
 
-pub gate-stops : (top : ℕ) (b : BookReconstructor) (ws sg : List ℕ) (m : L3Message) (e : StateError) → bookRefusal top b ws sg ≡ some e
+pub gate-stops : (top : ℕ) (b : BookReconstructor) (ws : List ℕ) (sg : List Segment) (m : L3Message) (e : StateError) → bookRefusal top b ws (length sg) ≡ some e
     → bookGate top b ws sg m ≡ some (Unusable e)
 unfolding gateRefusal
 gate-stops top b ws sg m e h = first-fails _ _ _ e h
 
 -- what is left of the gate once 1, 2 and 3 are passed
-pub gate-trusted : (top : ℕ) (b : BookReconstructor) (ws sg : List ℕ) (m : L3Message) → Usable top b ws sg
+pub gate-trusted : (top : ℕ) (b : BookReconstructor) (ws : List ℕ) (sg : List Segment) (m : L3Message) → Usable top b ws (length sg)
     → bookGate top b ws sg m ≡ admitRefusal (b .«product_id») (b .status) m
 unfolding gateRefusal
-gate-trusted top b ws sg m u = first-on _ _ _ _ (usable-none top b ws sg u) refl
+gate-trusted top b ws sg m u = first-on _ _ _ _ (usable-none top b ws (length sg) u) refl
 
-pub trusted-ready : (b : BookReconstructor) (ws sg : List ℕ) → Usable ceiling b ws sg → Ready ws (b .rows) (b .rules .«max_orders»)
-trusted-ready b ws sg u =
-    record {
-      few = sound b ws (u .sound) .few;
-      room = rows-lent b ws sg (u .lent);
-      small = orders-within ceiling (b .rules) (u .within);
-    }
+pub trusted-ready : (b : BookReconstructor) (ws : List ℕ) → Trusted ceiling b ws → Ready ws (b .rows) (b .rules .«max_orders»)
+trusted-ready b ws t =
+    record { few = sound b ws (t .sound) .few; room = t .room; small = orders-within ceiling (b .rules) (t .within) }
 
 -- a status that is let through is valid
 pub valid : (s : Status) → statusRefusal s ≡ none → s ≡ Valid (lastOf s)
@@ -63,15 +60,3 @@ valid (Invalidated i) h = let z : _≡_ {A = ℕ} 0 1 = cc in absurd (omega arit
 pub admitted-valid : (p : ProductId) (s : Status) (m : L3Message) → admitRefusal p s m ≡ none → s ≡ Valid (lastOf s)
 unfolding admitRefusal
 admitted-valid p s m h = valid s (passed _ _ _ (passed _ _ _ h .1) .1)
-
-pub trusted-segments : (b : BookReconstructor) (ws sg : List ℕ) (m : L3Message) → Usable ceiling b ws sg
-    → admitRefusal (b .«product_id») (b .status) m ≡ none → (0 < b .segments) × (8 * b .segments ≤ length sg)
-trusted-segments b ws sg m u h =
-    let l = segments-lent b ws sg (u .lent) in
-    (has-segment b (lastOf (b .status)) (admitted-valid (b .«product_id») (b .status) m h) (sound b ws (u .sound) .set), omega arith)
-
--- ---- the whole: what the core leaves, with the answer recorded
-
-pub joins : (sg : List ℕ) (n : ℕ) (m : L3Message) (r : Reply) (ws tg : List ℕ) (t : Core) → core r ws ≡ t → tg ≡ recorded sg n m (r .answer)
-    → leaves r ws tg ≡ withSegments t (recorded sg n m (t .answer))
-joins sg n m r ws tg t e q = rw q (ap (λ (x : Core). withSegments x (recorded sg n m (x .answer))) e)

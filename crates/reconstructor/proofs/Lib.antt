@@ -1,2 +1,4 @@
 pub mod Laws
 pub mod Kept
+pub mod ByValue
+pub mod ApplyShell

@@ -1,8 +1,8 @@
--- One message applied to a book: the answer, the state and the lent words afterwards, for every input.
+-- One message applied to a book: the answer, the state and the lent memory afterwards, for every input.
 use Prim.Native.Nat.{ℕ, _-_}
 use mathlib.Core.List.{List}
 use mathlib.Core.Option.{Option, none, some}
-use lib.ListN.{length}
+use lib.ListN.{length, set}
 use Rattle.message.specs.declared.L3Message.{L3Message}
 use Rattle.book.specs.Rows.{rowsOf, lineOf, stored}
 use Rattle.reconstructor_answers.specs.declared.Applied.{Applied}
@@ -15,7 +15,7 @@ use Rattle.reconstructor_answers.specs.declared.ApplyAnswer.{ApplyAnswer}
 use Rattle.reconstructor_answers.specs.declared.ApplyAnswer.the-variants as answers
 use Rattle.reconstructor_state.specs.declared.BookReconstructor.{BookReconstructor}
 use Rattle.reconstructor_counts.specs.Counts.{counted, countedAt}
-use Rattle.reconstructor_segments.specs.Segments.{segmentAt, setSegment, extended, ended}
+use Rattle.reconstructor_segments.specs.Segments.{segmentAt, extended, ended}
 use Rattle.reconstructor_state.specs.State.{with, withCounts, withStatus, lastOf, viewOf, lengthsOf}
 use Rattle.reconstructor_checks.specs.Own.{broken}
 use Rattle.reconstructor_plan.specs.Rules.{Deed, eventDeed}
@@ -38,9 +38,9 @@ pub record Parts : Type 0 where
   pub answer : ApplyAnswer
   pub book : BookReconstructor
   pub rows : List ℕ
-  pub segments : List ℕ
+  pub segments : List Segment
 
-abbrev pub leaves : Reply → List ℕ → List ℕ → Parts
+abbrev pub leaves : Reply → List ℕ → List Segment → Parts
 leaves r ws sg = record { answer = r .answer; book = r .book; rows = ws; segments = sg }
 
 -- ---- the state
@@ -87,8 +87,8 @@ nextSegment g (answers.Invalidated i) seq time = ended g i
 nextSegment g (answers.AwaitingSnapshot i) seq time = g
 
 -- the last of n records
-unfoldable pub recorded : List ℕ → ℕ → L3Message → ApplyAnswer → List ℕ
-recorded sg n m a = setSegment sg (n - 1) (nextSegment (segmentAt sg (n - 1)) a (m .sequence) (m .«time_us»))
+unfoldable pub recorded : List Segment → ℕ → L3Message → ApplyAnswer → List Segment
+recorded sg n m a = set sg (n - 1) (nextSegment (segmentAt sg (n - 1)) a (m .sequence) (m .«time_us»))
 
 -- ---- the whole
 
@@ -100,18 +100,18 @@ settled b ws last m none = accepted b ws (m .sequence) (eventDeed (rowsOf ws (b 
 abbrev pub turned : BookReconstructor → List ℕ → ℕ → L3Message → Core
 turned b ws last m = settled b ws last m (turnRefusal (b .rules) (lineOf (rowsOf ws (b .rows))) last m)
 
-abbrev pub withSegments : Core → List ℕ → Parts
+abbrev pub withSegments : Core → List Segment → Parts
 withSegments c sg = record { answer = c .answer; book = c .book; rows = c .rows; segments = sg }
 
 -- a message that the gate turned away, or let through
-unfoldable pub gated : BookReconstructor → List ℕ → List ℕ → L3Message → Option ApplyAnswer → Parts
+unfoldable pub gated : BookReconstructor → List ℕ → List Segment → L3Message → Option ApplyAnswer → Parts
 gated b ws sg m (some a) = leaves (refusedReply b a) ws sg
 gated b ws sg m none =
     withSegments (turned b ws (lastOf (b .status)) m) (recorded sg (b .segments) m (turned b ws (lastOf (b .status)) m .answer))
 
-abbrev pub bookGate : ℕ → BookReconstructor → List ℕ → List ℕ → L3Message → Option ApplyAnswer
+abbrev pub bookGate : ℕ → BookReconstructor → List ℕ → List Segment → L3Message → Option ApplyAnswer
 bookGate top b ws sg m = gateRefusal top (b .«product_id») (b .rules) (lengthsOf ws sg) (broken b ws) (viewOf b ws sg) m
 
 -- any message, the ceiling of the limits being an argument
-unfoldable pub applied : ℕ → BookReconstructor → List ℕ → List ℕ → L3Message → Parts
+unfoldable pub applied : ℕ → BookReconstructor → List ℕ → List Segment → L3Message → Parts
 applied top b ws sg m = gated b ws sg m (bookGate top b ws sg m)

@@ -1,3 +1,4 @@
 pub mod Refusals
 pub mod Applied
+pub mod ByValue
 pub mod Steps

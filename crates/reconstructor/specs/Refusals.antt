@@ -36,7 +36,7 @@ admitRefusal p s m =
 
 -- 1, 2, 3, and then those; `three` says whether number 3 arises
 unfoldable pub gateRefusal : ℕ → ProductId → VenueRules → Lengths → Bool → View → L3Message → Option ApplyAnswer
-gateRefusal top p v lent three w m = first (stateRefusal top v lent three w) Unusable (admitRefusal p (w .status) m)
+gateRefusal top p v lent three w m = first (stateRefusal top v lent three (w .segments)) Unusable (admitRefusal p (w .status) m)
 
 -- "Then sequence: last applied 2^64−1 is 22; last + 1 goes on to the event; at or below last is 21; else 20"
 unfoldable pub turnRefusal : VenueRules → List Entry → ℕ → L3Message → Option InvalidationKind

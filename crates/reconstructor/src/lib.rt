@@ -1,4 +1,5 @@
-// One message applied to a book: `apply` checks the state and what it is lent, then `apply_trusted` works the message.
+// One message applied to a book: `apply_by_value` checks the state and what it is lent, then `apply_trusted` works the message; `apply` lends them the last
+// segment's record and writes it back.
 use book_index::Bounds;
 use message::L3Message;
 use reconstructor_answers::Applied;
@@ -13,22 +14,54 @@ use reconstructor_segments::Segment;
 use reconstructor_state::BookReconstructor;
 use reconstructor_state::Status;
 ghost use mathlib.Core.Path.{_≡_};
-ghost use Prim.Native.Nat.{_*_, _≤_, _<_};
-ghost use lib.ListN.{length};
 ghost use Rattle.book.specs.Rows.{ceiling, rowsOf, lineOf};
 ghost use Rattle.book_index.specs.Index.{Indexed};
 ghost use Rattle.reconstructor_state.specs.State.{lastOf};
-ghost use Rattle.reconstructor_checks.specs.Own.{Usable};
+ghost use Rattle.reconstructor_checks.specs.Own.{Trusted};
 ghost use Rattle.reconstructor_plan.specs.Rules.{eventDeed};
 ghost use Rattle.reconstructor_plan.specs.Plans.{Ready, PlanFits, deedOf};
 ghost use Rattle.reconstructor.specs.Refusals.{admitRefusal, turnRefusal};
-ghost use Rattle.reconstructor.specs.Applied.{refusedReply, invalidatedReply, acceptedReply, accepted, core, turned, nextSegment, recorded, leaves, applied};
+ghost use Rattle.reconstructor.specs.Applied.{refusedReply, invalidatedReply, acceptedReply, accepted, core, turned, nextSegment, leaves, applied};
+ghost use Rattle.reconstructor.specs.ByValue.{worked, trustedTo, appliedTo, replyOf};
 ghost use Rattle.reconstructor.specs.Steps.{AdmitsFor, TurnsFor};
 
 // What a call leaves of the state, with its answer.
 pub struct Reply {
     pub book: BookReconstructor,
     pub answer: ApplyAnswer,
+}
+
+// The same, with what the message makes of the last segment's record.
+pub struct Work {
+    pub book: BookReconstructor,
+    pub answer: ApplyAnswer,
+    pub segment: Segment,
+}
+
+fn work_of(reply: Reply, segment: Segment) -> Work
+    ensures { λ r. ⌜ r ≡ record { book = reply .book; answer = reply .answer; segment = segment } ⌝ }
+{
+    let book = reply.book;
+    let answer = reply.answer;
+    Work {
+        book,
+        answer,
+        segment,
+    }
+}
+
+fn segment_of(work: Work) -> Segment
+    ensures { λ r. ⌜ r ≡ work .segment ⌝ }
+{
+    work.segment
+}
+
+fn reply_of(work: Work) -> Reply
+    ensures { λ r. ⌜ r ≡ replyOf work ⌝ }
+{
+    let book = work.book;
+    let answer = work.answer;
+    Reply { book, answer }
 }
 
 // Whether a message goes on to its turn in a valid book, or the answer that stops it.
@@ -222,38 +255,27 @@ fn next_segment(last: Segment, answer: ApplyAnswer, seq: u64, time_us: u64) -> S
     }
 }
 
-// Records an answer in the last of `count` segments: one load, one store.
-fn record_answer(segments: &mut [u64], count: usize, answer: ApplyAnswer, message: L3Message)
-    requires { ⌜ (0 < count) × (8 * count ≤ length (now segments)) ⌝ }
-    ensures { λ _. ⌜ now (segments .exit) ≡ recorded (now (segments .entry)) count message answer ⌝ }
-{
-    let at = count - 1;
-    let last = reconstructor_segments::get_segment(segments, at);
-    let next = next_segment(last, answer, message.sequence, message.time_us);
-    reconstructor_segments::set_segment(segments, at, next)
-}
-
-// `apply` of a state that passes 1, 2 and 3, without testing them again, with an index of its rows. It leaves such a state (`usable-kept`), and an index that
-// foresaw the message is one of the rows afterwards (`indexed-kept`), so that a replay tests once.
+// `apply` of a state that passes 1, 2 and 3, without testing them again, with an index of its rows and the last segment's record by value. It leaves such a
+// state (`usable-kept`), and an index that foresaw the message is one of the rows afterwards (`indexed-kept`), so that a replay tests once.
 pub fn apply_indexed(
     book: BookReconstructor,
     rows: &mut [u64],
-    segments: &mut [u64],
+    last: Segment,
     places: &[u16],
     bounds: Bounds,
     message: L3Message,
-) -> Reply
-    requires { ⌜ Usable ceiling book (now rows) (now segments) ⌝ }
+) -> Work
+    requires { ⌜ Ready (now rows) (book .rows) (book .rules .«max_orders») ⌝ }
     requires { ⌜ Indexed (now places) bounds (rowsOf (now rows) (book .rows)) ⌝ }
-    ensures { λ r. ⌜ leaves r (now (rows .exit)) (now (segments .exit)) ≡ applied ceiling book (now (rows .entry)) (now (segments .entry)) message ⌝ }
+    ensures { λ r. ⌜ worked r (now (rows .exit)) ≡ trustedTo book (now (rows .entry)) last message ⌝ }
 {
     match admit(book, message) {
-        Admitted::Stop(answer) => refused(book, answer),
+        Admitted::Stop(answer) => work_of(refused(book, answer), last),
         Admitted::Go { last_seq } => {
             let reply = apply_valid(book, rows, places, bounds, last_seq, message);
             let answer = reply.answer;
-            record_answer(segments, book.segments, answer, message);
-            reply
+            let segment = next_segment(last, answer, message.sequence, message.time_us);
+            work_of(reply, segment)
         }
     }
 }
@@ -262,27 +284,46 @@ pub fn apply_indexed(
 pub fn apply_trusted(
     book: BookReconstructor,
     rows: &mut [u64],
-    segments: &mut [u64],
+    last: Segment,
     message: L3Message,
-) -> Reply
-    requires { ⌜ Usable ceiling book (now rows) (now segments) ⌝ }
-    ensures { λ r. ⌜ leaves r (now (rows .exit)) (now (segments .exit)) ≡ applied ceiling book (now (rows .entry)) (now (segments .entry)) message ⌝ }
+) -> Work
+    requires { ⌜ Trusted ceiling book (now rows) ⌝ }
+    ensures { λ r. ⌜ worked r (now (rows .exit)) ≡ trustedTo book (now (rows .entry)) last message ⌝ }
 {
     let places = [0u16; 0];
-    apply_indexed(book, rows, segments, &places, Bounds::none(), message)
+    apply_indexed(book, rows, last, &places, Bounds::none(), message)
 }
 
-// Applies the next message to a book. Nothing but the counts that 01 names changes unless every check passes.
+// `apply` with the last segment's record by value, of a list of `lent` records.
+pub fn apply_by_value(
+    book: BookReconstructor,
+    rows: &mut [u64],
+    lent: usize,
+    last: Segment,
+    message: L3Message,
+) -> Work
+    ensures { λ r. ⌜ worked r (now (rows .exit)) ≡ appliedTo ceiling book (now (rows .entry)) lent last message ⌝ }
+{
+    match reconstructor_checks::own_checks(book, rows, lent) {
+        Checked::Refused(why) => work_of(refused(book, ApplyAnswer::Unusable(why)), last),
+        Checked::Passed => apply_trusted(book, rows, last, message),
+    }
+}
+
+// Applies the next message to a book. Nothing but the counts that 01 names changes unless every check passes; a refusal rewrites the last segment's record with
+// itself.
 pub fn apply(
     book: BookReconstructor,
     rows: &mut [u64],
-    segments: &mut [u64],
+    segments: &mut [Segment],
     message: L3Message,
 ) -> Reply
     ensures { λ r. ⌜ leaves r (now (rows .exit)) (now (segments .exit)) ≡ applied ceiling book (now (rows .entry)) (now (segments .entry)) message ⌝ }
 {
-    match reconstructor_checks::own_checks(book, rows, segments) {
-        Checked::Refused(why) => refused(book, ApplyAnswer::Unusable(why)),
-        Checked::Passed => apply_trusted(book, rows, segments, message),
-    }
+    let count = book.segment_count();
+    let last = reconstructor_segments::last_segment(segments, count);
+    let work = apply_by_value(book, rows, segments.len(), last, message);
+    let segment = segment_of(work);
+    reconstructor_segments::rewrite_last(segments, count, segment);
+    reply_of(work)
 }

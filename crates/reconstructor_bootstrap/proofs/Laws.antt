@@ -1,6 +1,6 @@
 -- What a host may rely on: an accepted snapshot leaves a usable, well-formed book; a refused one leaves the book as it was.
 -- Assumes nothing.
-use Prim.Native.Nat.{ℕ, zero, suc, _+_, _*_, _-_, _/_, _≤_, _<_}
+use Prim.Native.Nat.{ℕ, zero, suc, _+_, _*_, _-_, _<_}
 use mathlib.Core.Path.{_≡_, refl, sym, ap, subst, _∙_}
 use mathlib.Core.Bool.{Bool, true, false, cond, _&&_}
 use mathlib.Core.List.{List, [], map}
@@ -8,7 +8,7 @@ use mathlib.Core.Option.{Option, none, some}
 use native.Mathlib.Omega.{arith}
 use borrow.Author.Tests.{eqb-false, ne-eqb, le-ltb}
 use lib.Dec.{eqb, lit<}
-use lib.ListN.{length, length-map}
+use lib.ListN.{length, length-map, length-set}
 use Rattle.message.specs.declared.L3Snapshot.{L3Snapshot}
 use Rattle.piece.specs.declared.PieceError.{PieceError}
 use Rattle.piece.specs.declared.ReadSnapshot.{ReadSnapshot}
@@ -26,6 +26,7 @@ use Rattle.reconstructor_answers.specs.declared.StateError.{StateError}
 use Rattle.reconstructor_answers.specs.declared.StateError.the-variants.{LimitAboveCeiling, LentTooShort, MalformedBook}
 use Rattle.reconstructor_state.specs.Checks.{check, first}
 use Rattle.reconstructor_state.specs.declared.BookReconstructor.{BookReconstructor}
+use Rattle.reconstructor_segments.specs.declared.Segment.{Segment}
 use Rattle.reconstructor_segments.specs.Segments.{segmentAt, superseded, started}
 use Rattle.reconstructor_state.specs.State.{viewOf, lengthsOf, withCounts}
 use Rattle.reconstructor_checks.specs.Own.{broken, bookRefusal, Usable}
@@ -35,18 +36,17 @@ use Rattle.reconstructor_bootstrap.specs.declared.SnapshotAnswer.{Snapsh
 use Rattle.reconstructor_bootstrap.specs.declared.SnapshotAnswer.the-variants.{Bootstrapped, Unusable, NotAPiece, AmountOutOfRange, ListFull, Rejected}
 use Rattle.reconstructor_bootstrap.specs.Numbers.{snapshotNumber}
 use Rattle.reconstructor_bootstrap.specs.Snapshot.{pieceAnswer, snapshotLine, notPositive, lineRefusal, snapshotRefusal, acceptRefusal, pieceRefusal, bootRefusal}
-use Rattle.reconstructor_bootstrap.specs.Bootstrap.{Parts, refusedBook, refused, bootedBook, closed, segmentAdded, accepted, taken, bootstrapped}
+use Rattle.reconstructor_bootstrap.specs.Bootstrap.{Parts, refusedBook, refused, bootedBook, closed, segmentAdded, accepted, settled, taken, bootstrapped}
 use Rattle.reconstructor_bootstrap.specs.Places.{entryAt, entriesFrom}
 use Rattle.laws.proofs.Bools.{or-no, or-both, and-yes}
 use Rattle.book.proofs.Kept.{snapshot-kept}
 use Rattle.book.proofs.Stored.{rows-stored, length-stored}
 use Rattle.message.proofs.Amounts.{in-range-most}
-use Rattle.reconstructor_segments.proofs.Segments.{length-set-segment}
 use Rattle.reconstructor_state.proofs.Checks.{passed, first-passed}
-use Rattle.reconstructor_checks.proofs.Own.{usable, sound, rows-lent, segments-lent, kept, has-segment}
+use Rattle.reconstructor_checks.proofs.Own.{usable, sound, rows-lent, segments-lent, kept}
 use Rattle.reconstructor_bootstrap.proofs.Places.{line-places}
 use Rattle.reconstructor_bootstrap.proofs.Vetted.{someNotPositive, has-passed}
-use Rattle.reconstructor_bootstrap.proofs.Whole.{settled-some, read, few-orders, length-snapshot}
+use Rattle.reconstructor_bootstrap.proofs.Whole.{few-orders, length-snapshot}
 use Rattle.piece.specs.declared.PieceError.the-variants as pieces
 
 -- ---- number 5 and number 12: amounts of an accepted snapshot
@@ -103,49 +103,54 @@ fits bytes s b r h =
 -- ---- acceptance
 
 -- a snapshot that meets no number
-pub record Accepted (top : ℕ) (b : BookReconstructor) (ws sg bytes : List ℕ) : Type 0 where
+pub record Accepted (top : ℕ) (b : BookReconstructor) (ws : List ℕ) (sg : List Segment) (bytes : List ℕ) : Type 0 where
   pub snapshot : L3Snapshot
   pub is : bootstrapped top b ws sg bytes ≡ accepted b ws sg (snapshot .sequence) (snapshotLine snapshot bytes)
-  pub before : Usable top b ws sg
-  pub room : b .segments < length sg / 8
+  pub before : Usable top b ws (length sg)
+  pub room : b .segments < length sg
   pub fits : SnapshotFits (b .rules .«max_orders») (b .rules .«max_levels») (snapshotLine snapshot bytes)
 
-abbrev pub refusalOf : ℕ → BookReconstructor → List ℕ → List ℕ → List ℕ → Option SnapshotAnswer
+abbrev pub refusalOf : ℕ → BookReconstructor → List ℕ → List Segment → List ℕ → Option SnapshotAnswer
 refusalOf top b ws sg bytes = bootRefusal top (b .«product_id») (b .rules) (lengthsOf ws sg) (broken b ws) (viewOf b ws sg) bytes
 
-pub is-accepted : (top : ℕ) (b : BookReconstructor) (ws sg bytes : List ℕ) → refusalOf top b ws sg bytes ≡ none → Accepted top b ws sg bytes
+taken-is : (top : ℕ) (b : BookReconstructor) (ws : List ℕ) (sg : List Segment) (bytes : List ℕ) → refusalOf top b ws sg bytes ≡ none
+    → bootstrapped top b ws sg bytes ≡ taken (readSnapshot bytes) b ws sg bytes
+unfolding bootstrapped
+taken-is top b ws sg bytes h = ap (λ o. settled o b ws sg (taken (readSnapshot bytes) b ws sg bytes)) h
+
+pub is-accepted : (top : ℕ) (b : BookReconstructor) (ws : List ℕ) (sg : List Segment) (bytes : List ℕ) → refusalOf top b ws sg bytes ≡ none → Accepted top b ws sg bytes
 unfolding bootRefusal acceptRefusal
 is-accepted top b ws sg bytes h = go (readSnapshot bytes) refl (first-passed _ _ _ h .1)
   where
-    own : bookRefusal top b ws sg ≡ none
+    own : bookRefusal top b ws (length sg) ≡ none
     own = first-passed _ _ _ h .0
 
-    u : Usable top b ws sg
-    u = usable top b ws sg own
+    u : Usable top b ws (length sg)
+    u = usable top b ws (length sg) own
 
     go : (r : ReadSnapshot) → readSnapshot bytes ≡ r → pieceRefusal (b .«product_id») (b .rules) (lengthsOf ws sg) (viewOf b ws sg) r bytes ≡ none → Accepted top b ws sg bytes
     go (Refused e) q k = let z : _≡_ {A = ℕ} 0 1 = cc in absurd (omega arith)
     go (Snapshot s) q k =
         let full = passed _ _ _ k in
         let vetted = first-passed _ _ _ (full .1) in
-        let differ : length sg / 8 ≡ b .segments → ⊥ = eqb-false (length sg / 8) (b .segments) (full .0) in
+        let differ : length sg ≡ b .segments → ⊥ = eqb-false (length sg) (b .segments) (full .0) in
         record {
           snapshot = s;
-          is = sym (read top b ws sg bytes own s q) ∙ rw k;
+          is = taken-is top b ws sg bytes h ∙ ap (λ r. taken r b ws sg bytes) q;
           before = u;
-          room = omega (arith, differ, segments-lent b ws sg (u .lent));
+          room = omega (arith, differ, segments-lent b ws (length sg) (u .lent));
           fits = fits bytes s b q (vetted .0);
         }
 
 -- ending the open segment keeps the list's length
-pub length-closed : (st : Status) (sg : List ℕ) (n : ℕ) → 8 * n ≤ length sg → ((last : ℕ) → st ≡ Valid last → 0 < n) → length (closed st sg n) ≡ length sg
+pub length-closed : (st : Status) (sg : List Segment) (n : ℕ) → length (closed st sg n) ≡ length sg
 unfolding closed
-length-closed Empty sg n h p = refl
-length-closed (Valid last) sg n h p = length-set-segment sg (n - 1) (superseded (segmentAt sg (n - 1))) (let q = p last refl in omega arith)
-length-closed (Invalidated i) sg n h p = refl
+length-closed Empty sg n = refl
+length-closed (Valid last) sg n = length-set sg (n - 1) (superseded (segmentAt sg (n - 1)))
+length-closed (Invalidated i) sg n = refl
 
 -- the rows that it leaves are well formed
-pub accepted-formed : (top : ℕ) (b : BookReconstructor) (ws sg bytes : List ℕ) → refusalOf top b ws sg bytes ≡ none
+pub accepted-formed : (top : ℕ) (b : BookReconstructor) (ws : List ℕ) (sg : List Segment) (bytes : List ℕ) → refusalOf top b ws sg bytes ≡ none
     → WellFormed (b .rules .«max_orders») (b .rules .«max_levels») (rowsOf (bootstrapped top b ws sg bytes .rows) (bootstrapped top b ws sg bytes .book .rows))
 accepted-formed top b ws sg bytes h =
     let a = is-accepted top b ws sg bytes h in
@@ -155,8 +160,8 @@ accepted-formed top b ws sg bytes h =
     rw (a .is, r) (snapshot-kept (b .rules .«max_orders») (b .rules .«max_levels») t l (a .fits))
 
 -- and the state, with what it is lent, passes 1, 2 and 3 at the next call
-pub accepted-usable : (top : ℕ) (b : BookReconstructor) (ws sg bytes : List ℕ) → refusalOf top b ws sg bytes ≡ none
-    → Usable top (bootstrapped top b ws sg bytes .book) (bootstrapped top b ws sg bytes .rows) (bootstrapped top b ws sg bytes .segments)
+pub accepted-usable : (top : ℕ) (b : BookReconstructor) (ws : List ℕ) (sg : List Segment) (bytes : List ℕ) → refusalOf top b ws sg bytes ≡ none
+    → Usable top (bootstrapped top b ws sg bytes .book) (bootstrapped top b ws sg bytes .rows) (length (bootstrapped top b ws sg bytes .segments))
 accepted-usable top b ws sg bytes h =
     let a = is-accepted top b ws sg bytes h in
     let l : List Entry = snapshotLine (a .snapshot) bytes in
@@ -164,16 +169,15 @@ accepted-usable top b ws sg bytes h =
     let os : List Resting = map (snapshotRow t) l in
     let n : length os ≡ length l = length-map l (snapshotRow t) in
     let s = sound b ws (a .before .sound) in
-    let m = rows-lent b ws sg (a .before .lent) in
+    let m = rows-lent b ws (length sg) (a .before .lent) in
     let r : rowsOf (stored ws (b .rows) os) (length l) ≡ os = rw n at (rows-stored ws (b .rows) os) in
-    let c = length-closed (b .status) sg (b .segments) (omega (arith, a .room)) (λ last e. has-segment b last e (s .set)) in
-    let d = length-set-segment (closed (b .status) sg (b .segments)) (b .segments) (started t) (omega (arith, a .room, c)) in
+    let d = length-set (closed (b .status) sg (b .segments)) (b .segments) (started t) ∙ length-closed (b .status) sg (b .segments) in
     let f = length-stored ws (b .rows) os (omega (arith, s .few)) (omega (arith, a .fits .few)) in
     rw (a .is)
     (record {
       within = a .before .within;
       lent = or-both _ _ (le-ltb (length (stored ws (b .rows) os)) (8 * b .rules .«max_orders») (omega (arith, f, m)))
-          (le-ltb (length (segmentAdded (b .status) sg (b .segments) t) / 8) (b .segments + 1) (omega (arith, c, d, a .room)));
+          (le-ltb (length (segmentAdded (b .status) sg (b .segments) t)) (b .segments + 1) (omega (arith, d, a .room)));
       sound = kept (bootedBook b t (length l)) (stored ws (b .rows) os) os r n
           (snapshot-kept (b .rules .«max_orders») (b .rules .«max_levels») t l (a .fits))
           (ne-eqb (b .segments + 1) 0 (λ z. omega (arith, z)));
@@ -181,8 +185,8 @@ accepted-usable top b ws sg bytes h =
 
 -- ---- refusal
 
--- 01, bootstrap: "leave all else; a valid book stays valid"; no lent word changes
-pub record Untouched (b : BookReconstructor) (ws sg : List ℕ) (p : Parts) : Type 0 where
+-- 01, bootstrap: "leave all else; a valid book stays valid"; nothing that is lent changes
+pub record Untouched (b : BookReconstructor) (ws : List ℕ) (sg : List Segment) (p : Parts) : Type 0 where
   pub rows : p .rows ≡ ws
   pub segments : p .segments ≡ sg
   pub status : p .book .status ≡ b .status
@@ -199,12 +203,12 @@ counts-alone AmountOutOfRange b = refl
 counts-alone ListFull b = refl
 counts-alone (Rejected e) b = refl
 
-pub refused-is : (top : ℕ) (b : BookReconstructor) (ws sg bytes : List ℕ) (x : SnapshotAnswer) → refusalOf top b ws sg bytes ≡ some x
+pub refused-is : (top : ℕ) (b : BookReconstructor) (ws : List ℕ) (sg : List Segment) (bytes : List ℕ) (x : SnapshotAnswer) → refusalOf top b ws sg bytes ≡ some x
     → bootstrapped top b ws sg bytes ≡ refused x b ws sg
 unfolding bootstrapped
-refused-is top b ws sg bytes x h = sym (settled-some b ws sg (taken (readSnapshot bytes) b ws sg bytes) h)
+refused-is top b ws sg bytes x h = ap (λ o. settled o b ws sg (taken (readSnapshot bytes) b ws sg bytes)) h
 
-pub refused-keeps : (top : ℕ) (b : BookReconstructor) (ws sg bytes : List ℕ) (x : SnapshotAnswer) → refusalOf top b ws sg bytes ≡ some x
+pub refused-keeps : (top : ℕ) (b : BookReconstructor) (ws : List ℕ) (sg : List Segment) (bytes : List ℕ) (x : SnapshotAnswer) → refusalOf top b ws sg bytes ≡ some x
     → Untouched b ws sg (bootstrapped top b ws sg bytes)
 refused-keeps top b ws sg bytes x h =
     let e : refusedBook x b ≡ withCounts b (refusedBook x b .counts) = counts-alone x b in
@@ -219,8 +223,8 @@ refused-keeps top b ws sg bytes x h =
     })
 
 -- a usable state stays usable
-pub refused-usable : (top : ℕ) (b : BookReconstructor) (ws sg bytes : List ℕ) (x : SnapshotAnswer) → refusalOf top b ws sg bytes ≡ some x → Usable top b ws sg
-    → Usable top (bootstrapped top b ws sg bytes .book) (bootstrapped top b ws sg bytes .rows) (bootstrapped top b ws sg bytes .segments)
+pub refused-usable : (top : ℕ) (b : BookReconstructor) (ws : List ℕ) (sg : List Segment) (bytes : List ℕ) (x : SnapshotAnswer) → refusalOf top b ws sg bytes ≡ some x → Usable top b ws (length sg)
+    → Usable top (bootstrapped top b ws sg bytes .book) (bootstrapped top b ws sg bytes .rows) (length (bootstrapped top b ws sg bytes .segments))
 unfolding broken
 refused-usable top b ws sg bytes x h u =
     rw (refused-is top b ws sg bytes x h, counts-alone x b) (record { within = u .within; lent = u .lent; sound = u .sound })
@@ -260,7 +264,7 @@ piece-turned pieces.OutOfRange = lit< tt
 no-more : (x : SnapshotAnswer) → _≡_ {A = Option SnapshotAnswer} none (some x) → Turned x
 no-more x q = let z : _≡_ {A = ℕ} 0 1 = cc in absurd (omega arith)
 
-refusal-turned : (top : ℕ) (b : BookReconstructor) (ws sg bytes : List ℕ) (x : SnapshotAnswer) → refusalOf top b ws sg bytes ≡ some x → Turned x
+refusal-turned : (top : ℕ) (b : BookReconstructor) (ws : List ℕ) (sg : List Segment) (bytes : List ℕ) (x : SnapshotAnswer) → refusalOf top b ws sg bytes ≡ some x → Turned x
 unfolding bootRefusal acceptRefusal
 refusal-turned top b ws sg bytes x h = first-all Turned _ Unusable _ x state-turned (go (readSnapshot bytes)) h
   where
@@ -268,7 +272,7 @@ refusal-turned top b ws sg bytes x h = first-all Turned _ Unusable _ x state-tur
     go (Refused e) q = let d : pieceAnswer e ≡ x = cc in subst Turned d (piece-turned e)
     go (Snapshot s) q = check-all Turned _ ListFull _ x (lit< tt) (first-all Turned _ Rejected none x snapshot-turned (no-more x)) q
 
-pub zero-accepts : (top : ℕ) (b : BookReconstructor) (ws sg bytes : List ℕ) → snapshotNumber (bootstrapped top b ws sg bytes .answer) ≡ 0 → refusalOf top b ws sg bytes ≡ none
+pub zero-accepts : (top : ℕ) (b : BookReconstructor) (ws : List ℕ) (sg : List Segment) (bytes : List ℕ) → snapshotNumber (bootstrapped top b ws sg bytes .answer) ≡ 0 → refusalOf top b ws sg bytes ≡ none
 zero-accepts top b ws sg bytes h = go (refusalOf top b ws sg bytes) refl
   where
     go : (o : Option SnapshotAnswer) → refusalOf top b ws sg bytes ≡ o → o ≡ none

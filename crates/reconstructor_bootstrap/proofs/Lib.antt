@@ -3,3 +3,5 @@ pub mod Filled
 pub mod Vetted
 pub mod Whole
 pub mod Laws
+pub mod ByValue
+pub mod BootShell

@@ -2,8 +2,7 @@
 use Prim.Native.Nat.{ℕ, _+_, _-_}
 use mathlib.Core.List.{List, map}
 use mathlib.Core.Option.{Option, none, some}
-use lib.ListN.{length}
-use Rattle.message.specs.declared.L3Snapshot.{L3Snapshot}
+use lib.ListN.{length, set}
 use Rattle.piece.specs.declared.ReadSnapshot.{ReadSnapshot}
 use Rattle.piece.specs.declared.ReadSnapshot.the-variants.{Snapshot, Refused}
 use Rattle.piece.specs.Piece.{readSnapshot}
@@ -13,7 +12,8 @@ use Rattle.reconstructor_state.specs.declared.Status.{Status}
 use Rattle.reconstructor_state.specs.declared.Status.the-variants.{Empty, Valid, Invalidated}
 use Rattle.reconstructor_state.specs.declared.BookReconstructor.{BookReconstructor}
 use Rattle.reconstructor_counts.specs.Counts.{countedAt}
-use Rattle.reconstructor_segments.specs.Segments.{segmentAt, setSegment, started, superseded}
+use Rattle.reconstructor_segments.specs.declared.Segment.{Segment}
+use Rattle.reconstructor_segments.specs.Segments.{segmentAt, started, superseded}
 use Rattle.reconstructor_state.specs.State.{withCounts, viewOf, lengthsOf}
 use Rattle.reconstructor_checks.specs.Own.{broken}
 use Rattle.reconstructor_bootstrap.specs.declared.SnapshotError.{SnapshotError}
@@ -22,16 +22,16 @@ use Rattle.reconstructor_bootstrap.specs.declared.SnapshotAnswer.the-var
 use Rattle.reconstructor_bootstrap.specs.declared.Reply.{Reply}
 use Rattle.reconstructor_bootstrap.specs.declared.Validated.{Validated}
 use Rattle.reconstructor_bootstrap.specs.declared.Validated.the-variants as validations
-use Rattle.reconstructor_bootstrap.specs.Snapshot.{snapshotLine, pieceAnswer, acceptRefusal, bootRefusal}
+use Rattle.reconstructor_bootstrap.specs.Snapshot.{snapshotLine, pieceAnswer, bootRefusal}
 
--- the answer, the state and the lent words as a call leaves them
+-- the answer, the state and the lent memory as a call leaves them
 pub record Parts : Type 0 where
   pub answer : SnapshotAnswer
   pub book : BookReconstructor
   pub rows : List ℕ
-  pub segments : List ℕ
+  pub segments : List Segment
 
-abbrev pub leaves : Reply → List ℕ → List ℕ → Parts
+abbrev pub leaves : Reply → List ℕ → List Segment → Parts
 leaves r ws sg = record { answer = r .answer; book = r .book; rows = ws; segments = sg }
 
 -- ---- refusals
@@ -45,7 +45,7 @@ refusedBook AmountOutOfRange b = b
 refusedBook ListFull b = b
 refusedBook (Rejected e) b = withCounts b (countedAt 11 (b .counts))
 
-abbrev pub refused : SnapshotAnswer → BookReconstructor → List ℕ → List ℕ → Parts
+abbrev pub refused : SnapshotAnswer → BookReconstructor → List ℕ → List Segment → Parts
 refused a b ws sg = record { answer = a; book = refusedBook a b; rows = ws; segments = sg }
 
 -- ---- acceptance
@@ -64,17 +64,17 @@ bootedBook b sequence n =
     }
 
 -- "Acceptance ends an open segment as superseded": the last of n, which is open while the book is valid
-unfoldable pub closed : Status → List ℕ → ℕ → List ℕ
+unfoldable pub closed : Status → List Segment → ℕ → List Segment
 closed Empty sg n = sg
-closed (Valid last) sg n = setSegment sg (n - 1) (superseded (segmentAt sg (n - 1)))
+closed (Valid last) sg n = set sg (n - 1) (superseded (segmentAt sg (n - 1)))
 closed (Invalidated i) sg n = sg
 
 -- "adds a segment"
-abbrev pub segmentAdded : Status → List ℕ → ℕ → ℕ → List ℕ
-segmentAdded status sg n sequence = setSegment (closed status sg n) n (started sequence)
+abbrev pub segmentAdded : Status → List Segment → ℕ → ℕ → List Segment
+segmentAdded status sg n sequence = set (closed status sg n) n (started sequence)
 
 -- "and gives rows unknown priority with entered_at = the snapshot's sequence"
-abbrev pub accepted : BookReconstructor → List ℕ → List ℕ → ℕ → List Entry → Parts
+abbrev pub accepted : BookReconstructor → List ℕ → List Segment → ℕ → List Entry → Parts
 accepted b ws sg sequence line =
     record {
       answer = Bootstrapped;
@@ -86,22 +86,16 @@ accepted b ws sg sequence line =
 -- ---- the call
 
 -- a refusal, or else the snapshot that was read is taken
-abbrev pub settled : Option SnapshotAnswer → BookReconstructor → List ℕ → List ℕ → Parts → Parts
+abbrev pub settled : Option SnapshotAnswer → BookReconstructor → List ℕ → List Segment → Parts → Parts
 settled (some a) b ws sg p = refused a b ws sg
 settled none b ws sg p = p
 
--- the core: 6, 10 to 14, on a state that passed 1, 2 and 3
-abbrev pub snapshotSettled : BookReconstructor → List ℕ → List ℕ → List ℕ → L3Snapshot → Parts
-snapshotSettled b ws sg bytes s =
-    settled (acceptRefusal (b .«product_id») (b .rules) (lengthsOf ws sg) (viewOf b ws sg) s (snapshotLine s bytes)) b ws sg
-    (accepted b ws sg (s .sequence) (snapshotLine s bytes))
-
 -- bytes that are no snapshot have met 4 or 5 before
-abbrev pub taken : ReadSnapshot → BookReconstructor → List ℕ → List ℕ → List ℕ → Parts
+abbrev pub taken : ReadSnapshot → BookReconstructor → List ℕ → List Segment → List ℕ → Parts
 taken (Refused e) b ws sg bytes = refused (pieceAnswer e) b ws sg
 taken (Snapshot s) b ws sg bytes = accepted b ws sg (s .sequence) (snapshotLine s bytes)
 
-unfoldable pub bootstrapped : ℕ → BookReconstructor → List ℕ → List ℕ → List ℕ → Parts
+unfoldable pub bootstrapped : ℕ → BookReconstructor → List ℕ → List Segment → List ℕ → Parts
 bootstrapped top b ws sg bytes =
     settled (bootRefusal top (b .«product_id») (b .rules) (lengthsOf ws sg) (broken b ws) (viewOf b ws sg) bytes) b ws sg
     (taken (readSnapshot bytes) b ws sg bytes)

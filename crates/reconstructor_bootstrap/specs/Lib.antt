@@ -2,3 +2,4 @@ pub mod Numbers
 pub mod Snapshot
 pub mod Bootstrap
 pub mod Places
+pub mod ByValue

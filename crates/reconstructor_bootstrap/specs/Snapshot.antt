@@ -85,4 +85,4 @@ pieceRefusal product v lent w (Snapshot s) bytes = acceptRefusal product v lent 
 -- all of them, over a view; `three` says whether number 3 arises
 unfoldable pub bootRefusal : ℕ → ProductId → VenueRules → Lengths → Bool → View → List ℕ → Option SnapshotAnswer
 bootRefusal top product v lent three w bytes =
-    first (stateRefusal top v lent three w) Unusable (pieceRefusal product v lent w (readSnapshot bytes) bytes)
+    first (stateRefusal top v lent three (w .segments)) Unusable (pieceRefusal product v lent w (readSnapshot bytes) bytes)

@@ -1,4 +1,5 @@
-// `bootstrap`: a snapshot piece takes the place of the book, or is turned away and leaves it as it was.
+// `bootstrap`: a snapshot piece takes the place of the book, or is turned away and leaves it as it was. `bootstrap_by_value` does the work with the last segment's
+// record by value; `bootstrap` lends it that record, writes it back and writes the one that is started.
 use book::Found;
 use book::Resting;
 use message::L3Side;
@@ -15,15 +16,15 @@ use reconstructor_state::Status;
 use reconstructor_state::VenueRules;
 ghost use mathlib.Core.Path.{_≡_};
 ghost use mathlib.Core.Bool.{cond};
-ghost use Prim.Native.Nat.{ℕ, _+_, _*_, _≤_, _<_};
+ghost use Prim.Native.Nat.{_+_, _≤_, _<_};
 ghost use lib.Dec.{ltb};
-ghost use lib.ListN.{length};
 ghost use Rattle.book.specs.Line.{rests, hasLevel};
 ghost use Rattle.book.specs.Rows.{Lent, ceiling, rowsOf, lineOf, idOf, sideOf, stored, snapshotKind, snapshotRow};
 ghost use Rattle.reconstructor_checks.specs.Own.{Usable};
 ghost use Rattle.reconstructor_bootstrap.specs.Numbers.{snapshotErrorNumber, snapshotNumber};
 ghost use Rattle.reconstructor_bootstrap.specs.Snapshot.{snapshotLine, lineRefusal, snapshotRefusal, pieceAnswer};
-ghost use Rattle.reconstructor_bootstrap.specs.Bootstrap.{leaves, refusedBook, bootedBook, closed, accepted, snapshotSettled, bootstrapped, validated};
+ghost use Rattle.reconstructor_bootstrap.specs.Bootstrap.{leaves, refusedBook, bootedBook, bootstrapped, validated};
+ghost use Rattle.reconstructor_bootstrap.specs.ByValue.{booted, refusedWork, closedTo, acceptedTo, usableTo, bootstrappedTo, replyOf};
 ghost use Rattle.reconstructor_bootstrap.specs.Places.{sideAt, entryAt, entriesFrom, rowsAt, Room};
 
 // Why a snapshot is refused, and counted so. 10 to 14.
@@ -56,9 +57,46 @@ enum Validated {
     Refused(SnapshotError),
 }
 
+// What a call leaves of the state, with its answer.
 pub struct Reply {
     pub book: BookReconstructor,
     pub answer: SnapshotAnswer,
+}
+
+// The same, with what the snapshot makes of the last segment's record, and the record that it starts with its place: past the list's end where it starts none.
+pub struct Work {
+    pub book: BookReconstructor,
+    pub answer: SnapshotAnswer,
+    pub segment: Segment,
+    pub at: usize,
+    pub started: Segment,
+}
+
+// `bootstrap` reads the work through these alone.
+fn segment_of(work: Work) -> Segment
+    ensures { λ r. ⌜ r ≡ work .segment ⌝ }
+{
+    work.segment
+}
+
+fn at_of(work: Work) -> usize
+    ensures { λ r. ⌜ r ≡ work .at ⌝ }
+{
+    work.at
+}
+
+fn started_of(work: Work) -> Segment
+    ensures { λ r. ⌜ r ≡ work .started ⌝ }
+{
+    work.started
+}
+
+fn reply_of(work: Work) -> Reply
+    ensures { λ r. ⌜ r ≡ replyOf work ⌝ }
+{
+    let book = work.book;
+    let answer = work.answer;
+    Reply { book, answer }
 }
 
 impl SnapshotError {
@@ -315,35 +353,51 @@ fn piece_answer(error: PieceError) -> SnapshotAnswer
     }
 }
 
-// A snapshot that 10 to 14 turn away is counted, and changes nothing else.
-fn rejected(book: BookReconstructor, error: SnapshotError) -> Reply
-    ensures { λ r. ⌜ (r .book ≡ refusedBook (SnapshotAnswer.Rejected error) book) × (r .answer ≡ SnapshotAnswer.Rejected error) ⌝ }
+// 10 to 14 are counted, and change nothing else.
+fn refused_book(book: BookReconstructor, answer: SnapshotAnswer) -> BookReconstructor
+    ensures { λ r. ⌜ r ≡ refusedBook answer book ⌝ }
 {
-    let counts = book.counts;
-    Reply {
-        book: book.with_counts(counts.rejected_snapshot()),
-        answer: SnapshotAnswer::Rejected(error),
+    match answer {
+        SnapshotAnswer::Bootstrapped => book,
+        SnapshotAnswer::Unusable(_) => book,
+        SnapshotAnswer::NotAPiece => book,
+        SnapshotAnswer::AmountOutOfRange => book,
+        SnapshotAnswer::ListFull => book,
+        SnapshotAnswer::Rejected(_) => {
+            let counts = book.counts;
+            book.with_counts(counts.rejected_snapshot())
+        }
     }
 }
 
-// Ends the last of `n` segments as superseded, if it is still open: while the book is valid.
-fn close_last(segments: &mut [u64], status: Status, n: usize)
-    requires { ⌜ 8 * n ≤ length (now segments) ⌝ }
-    requires { ⌜ ((last : ℕ) → status ≡ Status.Valid last → 0 < n) ⌝ }
-    ensures { λ _. ⌜ now (segments .exit) ≡ closed status (now (segments .entry)) n ⌝ }
+// A refusal, of a call that is lent a list of `lent` records: the last one stays, and none is started.
+fn refused(book: BookReconstructor, answer: SnapshotAnswer, lent: usize, last: Segment) -> Work
+    ensures { λ r. ⌜ r ≡ refusedWork answer book lent last ⌝ }
+{
+    let book = refused_book(book, answer);
+    let started = Segment::none();
+    Work {
+        book,
+        answer,
+        segment: last,
+        at: lent,
+        started,
+    }
+}
+
+// Ends the last segment as superseded, if it is still open: while the book is valid.
+fn close_last(status: Status, last: Segment) -> Segment
+    ensures { λ r. ⌜ r ≡ closedTo status last ⌝ }
 {
     match status {
-        Status::Empty => {}
-        Status::Valid { .. } => {
-            let last = reconstructor_segments::get_segment(segments, n - 1);
-            reconstructor_segments::set_segment(segments, n - 1, last.superseded());
-        }
-        Status::Invalidated(_) => {}
+        Status::Empty => last,
+        Status::Valid { .. } => last.superseded(),
+        Status::Invalidated(_) => last,
     }
 }
 
 // The state at the snapshot's sequence, with its `n` orders and one segment more.
-fn booted(book: BookReconstructor, sequence: u64, n: usize) -> BookReconstructor
+fn booted_book(book: BookReconstructor, sequence: u64, n: usize) -> BookReconstructor
     requires { ⌜ book .segments + 1 < 18446744073709551616 ⌝ }
     ensures { λ r. ⌜ r ≡ bootedBook book sequence n ⌝ }
 {
@@ -365,25 +419,26 @@ fn booted(book: BookReconstructor, sequence: u64, n: usize) -> BookReconstructor
 fn accept(
     book: BookReconstructor,
     rows: &mut [u64],
-    segments: &mut [u64],
+    last: Segment,
     bytes: &[u8],
     snapshot: L3Snapshot,
-) -> Reply
+) -> Work
     requires { ⌜ Room (now rows) (book .rows) (snapshot .bids + snapshot .asks) ⌝ }
-    requires { ⌜ 8 * book .segments + 8 ≤ length (now segments) ⌝ }
-    requires { ⌜ ((last : ℕ) → book .status ≡ Status.Valid last → 0 < book .segments) ⌝ }
-    ensures { λ r. ⌜ leaves r (now (rows .exit)) (now (segments .exit)) ≡ accepted book (now (rows .entry)) (now (segments .entry)) (snapshot .sequence) (snapshotLine snapshot (now (bytes .entry))) ⌝ }
+    requires { ⌜ book .segments + 1 < 18446744073709551616 ⌝ }
+    ensures { λ r. ⌜ booted r (now (rows .exit)) ≡ acceptedTo book (now (rows .entry)) last (snapshot .sequence) (snapshotLine snapshot (now (bytes .entry))) ⌝ }
 {
     let n = snapshot.bids + snapshot.asks;
     let status = book.status;
-    let count = book.segments;
-    let next = booted(book, snapshot.sequence, n);
+    let next = booted_book(book, snapshot.sequence, n);
     store_rows(rows, book.rows, bytes, snapshot.bids, n, snapshot.sequence);
-    close_last(segments, status, count);
-    reconstructor_segments::set_segment(segments, count, Segment::started(snapshot.sequence));
-    Reply {
+    let segment = close_last(status, last);
+    let started = Segment::started(snapshot.sequence);
+    Work {
         book: next,
         answer: SnapshotAnswer::Bootstrapped,
+        segment,
+        at: book.segments,
+        started,
     }
 }
 
@@ -391,49 +446,64 @@ fn accept(
 fn bootstrap_usable(
     book: BookReconstructor,
     rows: &mut [u64],
-    segments: &mut [u64],
+    lent: usize,
+    last: Segment,
     bytes: &[u8],
     snapshot: L3Snapshot,
-) -> Reply
-    requires { ⌜ Usable ceiling book (now rows) (now segments) ⌝ }
-    ensures { λ r. ⌜ leaves r (now (rows .exit)) (now (segments .exit)) ≡ snapshotSettled book (now (rows .entry)) (now (segments .entry)) (now (bytes .entry)) snapshot ⌝ }
+) -> Work
+    requires { ⌜ Usable ceiling book (now rows) lent ⌝ }
+    ensures { λ r. ⌜ booted r (now (rows .exit)) ≡ usableTo book (now (rows .entry)) lent last (now (bytes .entry)) snapshot ⌝ }
 {
-    if segments.len() / 8 == book.segments {
-        return Reply {
-            book,
-            answer: SnapshotAnswer::ListFull,
-        };
+    if lent == book.segments {
+        return refused(book, SnapshotAnswer::ListFull, lent, last);
     }
     let product = book.product_id;
     let rules = book.rules;
     match validate_snapshot(product, rules, bytes, snapshot) {
-        Validated::Fits => accept(book, rows, segments, bytes, snapshot),
-        Validated::Refused(error) => rejected(book, error),
+        Validated::Fits => accept(book, rows, last, bytes, snapshot),
+        Validated::Refused(error) => refused(book, SnapshotAnswer::Rejected(error), lent, last),
+    }
+}
+
+// `bootstrap` with the last segment's record by value, of a list of `lent` records.
+pub fn bootstrap_by_value(
+    book: BookReconstructor,
+    rows: &mut [u64],
+    lent: usize,
+    last: Segment,
+    bytes: &[u8],
+) -> Work
+    ensures { λ r. ⌜ booted r (now (rows .exit)) ≡ bootstrappedTo ceiling book (now (rows .entry)) lent last (now (bytes .entry)) ⌝ }
+{
+    let checked = reconstructor_checks::own_checks(book, rows, lent);
+    if let Checked::Refused(why) = checked {
+        return refused(book, SnapshotAnswer::Unusable(why), lent, last);
+    }
+    match piece::read_snapshot(bytes) {
+        ReadSnapshot::Snapshot(snapshot) => {
+            bootstrap_usable(book, rows, lent, last, bytes, snapshot)
+        }
+        ReadSnapshot::Refused(error) => refused(book, piece_answer(error), lent, last),
     }
 }
 
 // Takes the snapshot piece for the book, or says by which number it is turned away. A refused snapshot leaves the book, the rows and the segment
-// list as they were, but for the count of 10 to 14.
+// list as they were, but for the count of 10 to 14: the last segment's record is rewritten with itself.
 pub fn bootstrap(
     book: BookReconstructor,
     rows: &mut [u64],
-    segments: &mut [u64],
+    segments: &mut [Segment],
     bytes: &[u8],
 ) -> Reply
     ensures { λ r. ⌜ leaves r (now (rows .exit)) (now (segments .exit)) ≡ bootstrapped ceiling book (now (rows .entry)) (now (segments .entry)) (now (bytes .entry)) ⌝ }
 {
-    let checked = reconstructor_checks::own_checks(book, rows, segments);
-    if let Checked::Refused(why) = checked {
-        return Reply {
-            book,
-            answer: SnapshotAnswer::Unusable(why),
-        };
-    }
-    match piece::read_snapshot(bytes) {
-        ReadSnapshot::Snapshot(snapshot) => bootstrap_usable(book, rows, segments, bytes, snapshot),
-        ReadSnapshot::Refused(error) => Reply {
-            book,
-            answer: piece_answer(error),
-        },
-    }
+    let count = book.segment_count();
+    let last = reconstructor_segments::last_segment(segments, count);
+    let work = bootstrap_by_value(book, rows, segments.len(), last, bytes);
+    let segment = segment_of(work);
+    reconstructor_segments::rewrite_last(segments, count, segment);
+    let at = at_of(work);
+    let started = started_of(work);
+    reconstructor_segments::append_segment(segments, at, started);
+    reply_of(work)
 }

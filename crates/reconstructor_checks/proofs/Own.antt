@@ -16,10 +16,10 @@ use Rattle.reconstructor_state.specs.declared.VenueRules.{VenueRules}
 use Rattle.reconstructor_state.specs.declared.Status.the-variants.{Valid}
 use Rattle.reconstructor_answers.specs.declared.StateError.{StateError}
 use Rattle.reconstructor_state.specs.declared.BookReconstructor.{BookReconstructor}
-use Rattle.reconstructor_state.specs.State.{viewOf, lengthsOf}
+use Rattle.reconstructor_state.specs.State.{lengthsWith}
 use Rattle.reconstructor_checks.specs.declared.Checked.{Checked}
 use Rattle.reconstructor_checks.specs.declared.Checked.the-variants.{Passed, Refused}
-use Rattle.reconstructor_checks.specs.Own.{overCeiling, tooShort, unsettled, broken, stateRefusal, bookRefusal, checked, Usable}
+use Rattle.reconstructor_checks.specs.Own.{overCeiling, tooShort, unsettled, broken, stateRefusal, bookRefusal, checked, Usable, Trusted}
 use Rattle.laws.proofs.Bools.{or-no, or-both}
 use Rattle.book.proofs.Rows.{length-rows}
 use Rattle.book.proofs.Kept.{broken-not, not-broken}
@@ -50,12 +50,12 @@ said-none (some d) r p q = let z : _≡_ {A = ℕ} 0 1 = cc in absurd (omega ari
 pub orders-within : (top : ℕ) (v : VenueRules) → overCeiling top v ≡ false → v .«max_orders» ≤ top
 orders-within top v h = ltb-false top (v .«max_orders») (or-no (ltb top (v .«max_orders»)) (ltb top (v .«max_levels»)) h .0)
 
-module _ (b : BookReconstructor) (ws sg : List ℕ) (h : tooShort (b .rules) (lengthsOf ws sg) (viewOf b ws sg) ≡ false) where
+module _ (b : BookReconstructor) (ws : List ℕ) (lent : ℕ) (h : tooShort (b .rules) (lengthsWith ws lent) (b .segments) ≡ false) where
   pub rows-lent : 8 * b .rules .«max_orders» ≤ length ws
-  rows-lent = ltb-false (length ws) (8 * b .rules .«max_orders») (or-no (ltb (length ws) (8 * b .rules .«max_orders»)) (ltb (length sg / 8) (b .segments)) h .0)
+  rows-lent = ltb-false (length ws) (8 * b .rules .«max_orders») (or-no (ltb (length ws) (8 * b .rules .«max_orders»)) (ltb lent (b .segments)) h .0)
 
-  pub segments-lent : b .segments ≤ length sg / 8
-  segments-lent = ltb-false (length sg / 8) (b .segments) (or-no (ltb (length ws) (8 * b .rules .«max_orders»)) (ltb (length sg / 8) (b .segments)) h .1)
+  pub segments-lent : b .segments ≤ lent
+  segments-lent = ltb-false lent (b .segments) (or-no (ltb (length ws) (8 * b .rules .«max_orders»)) (ltb lent (b .segments)) h .1)
 
 -- the test on lent words is the test on rows, once their number is known to fit
 pub words-rows : (ml : ℕ) (ws : List ℕ) (n : ℕ) → n ≤ ceiling → 8 * n ≤ length ws → wordsBroken ml ws n ≡ rowsBroken ml (rowsOf ws n)
@@ -92,24 +92,27 @@ kept b ws os e n w u =
 
 -- ---- the whole
 
-pub usable : (top : ℕ) (b : BookReconstructor) (ws sg : List ℕ) → bookRefusal top b ws sg ≡ none → Usable top b ws sg
+pub usable : (top : ℕ) (b : BookReconstructor) (ws : List ℕ) (lent : ℕ) → bookRefusal top b ws lent ≡ none → Usable top b ws lent
 unfolding stateRefusal
-usable top b ws sg h =
+usable top b ws lent h =
     let h₁ = passed _ _ _ h in
     let h₂ = passed _ _ _ (h₁ .1) in
     let h₃ = passed _ _ _ (h₂ .1) in
     record { within = h₁ .0; lent = h₂ .0; sound = h₃ .0 }
 
-pub usable-none : (top : ℕ) (b : BookReconstructor) (ws sg : List ℕ) → Usable top b ws sg → bookRefusal top b ws sg ≡ none
+pub usable-none : (top : ℕ) (b : BookReconstructor) (ws : List ℕ) (lent : ℕ) → Usable top b ws lent → bookRefusal top b ws lent ≡ none
 unfolding stateRefusal
-usable-none top b ws sg u = goes-on _ _ _ _ (u .within) (goes-on _ _ _ _ (u .lent) (goes-on _ _ _ _ (u .sound) refl))
+usable-none top b ws lent u = goes-on _ _ _ _ (u .within) (goes-on _ _ _ _ (u .lent) (goes-on _ _ _ _ (u .sound) refl))
+
+pub trusted : (top : ℕ) (b : BookReconstructor) (ws : List ℕ) (lent : ℕ) → Usable top b ws lent → Trusted top b ws
+trusted top b ws lent u = record { within = u .within; room = rows-lent b ws lent (u .lent); sound = u .sound }
 
 -- its rows are lent, with room for every permitted order
-pub rows-ready : (b : BookReconstructor) (ws sg : List ℕ) → Usable ceiling b ws sg → Lent ws (b .rows)
-rows-ready b ws sg u =
-    let f = sound b ws (u .sound) .few in
-    let m = orders-within ceiling (b .rules) (u .within) in
-    let r = rows-lent b ws sg (u .lent) in
+pub rows-ready : (b : BookReconstructor) (ws : List ℕ) → Trusted ceiling b ws → Lent ws (b .rows)
+rows-ready b ws t =
+    let f = sound b ws (t .sound) .few in
+    let m = orders-within ceiling (b .rules) (t .within) in
+    let r = t .room in
     record { room = omega arith; few = omega arith }
 
 -- a valid book has a segment

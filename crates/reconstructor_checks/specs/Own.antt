@@ -1,10 +1,11 @@
 -- The port's own checks of a state: 1, 2 and 3.
-use Prim.Native.Nat.{ℕ, _*_}
+use Prim.Native.Nat.{ℕ, _*_, _≤_}
 use mathlib.Core.Path.{_≡_}
 use mathlib.Core.Bool.{Bool, false, _||_}
 use mathlib.Core.List.{List}
 use mathlib.Core.Option.{Option, none, some}
 use lib.Dec.{eqb, ltb}
+use lib.ListN.{length}
 use Rattle.book.specs.Rows.{rowsOf}
 use Rattle.book.specs.Broken.{rowsBroken}
 use Rattle.reconstructor_state.specs.declared.VenueRules.{VenueRules}
@@ -14,7 +15,7 @@ use Rattle.reconstructor_answers.specs.declared.StateError.{StateError}
 use Rattle.reconstructor_answers.specs.declared.StateError.the-variants.{LimitAboveCeiling, LentTooShort, MalformedBook}
 use Rattle.reconstructor_state.specs.declared.BookReconstructor.{BookReconstructor}
 use Rattle.reconstructor_state.specs.Checks.{check}
-use Rattle.reconstructor_state.specs.State.{View, viewOf, Lengths, lengthsOf}
+use Rattle.reconstructor_state.specs.State.{Lengths, lengthsWith}
 use Rattle.reconstructor_checks.specs.declared.Checked.{Checked}
 use Rattle.reconstructor_checks.specs.declared.Checked.the-variants.{Passed, Refused}
 
@@ -23,8 +24,8 @@ abbrev pub overCeiling : ℕ → VenueRules → Bool
 overCeiling top v = ltb top (v .«max_orders») || ltb top (v .«max_levels»)
 
 -- 2: "rows under 8 × max_orders words .. or list shorter than the segment count"
-abbrev pub tooShort : VenueRules → Lengths → View → Bool
-tooShort v lent w = ltb (lent .rows) (8 * v .«max_orders») || ltb (lent .segments) (w .segments)
+abbrev pub tooShort : VenueRules → Lengths → ℕ → Bool
+tooShort v lent segments = ltb (lent .rows) (8 * v .«max_orders») || ltb (lent .segments) segments
 
 -- 3, of the status: "no segment once bootstrapped; rows or segments before"
 abbrev pub unsettled : Status → ℕ → ℕ → Bool
@@ -38,21 +39,27 @@ broken b ws =
     ltb (b .rules .«max_orders») (b .rows) ||
     (rowsBroken (b .rules .«max_levels») (rowsOf ws (b .rows)) || unsettled (b .status) (b .rows) (b .segments))
 
--- 1, 2, 3 over a view; `three` says whether number 3 arises, which takes more than the view
-unfoldable pub stateRefusal : ℕ → VenueRules → Lengths → Bool → View → Option StateError
-stateRefusal top v lent three w =
-    check (overCeiling top v) LimitAboveCeiling (check (tooShort v lent w) LentTooShort (check three MalformedBook none))
+-- 1, 2, 3 of a book with so many segments; `three` says whether number 3 arises, which takes more than the rules go by
+unfoldable pub stateRefusal : ℕ → VenueRules → Lengths → Bool → ℕ → Option StateError
+stateRefusal top v lent three segments =
+    check (overCeiling top v) LimitAboveCeiling (check (tooShort v lent segments) LentTooShort (check three MalformedBook none))
 
--- of a state with lent rows and a lent list
-abbrev pub bookRefusal : ℕ → BookReconstructor → List ℕ → List ℕ → Option StateError
-bookRefusal top b ws sg = stateRefusal top (b .rules) (lengthsOf ws sg) (broken b ws) (viewOf b ws sg)
+-- of a state with lent rows and a lent list of so many records
+abbrev pub bookRefusal : ℕ → BookReconstructor → List ℕ → ℕ → Option StateError
+bookRefusal top b ws lent = stateRefusal top (b .rules) (lengthsWith ws lent) (broken b ws) (b .segments)
 
 unfoldable pub checked : Option StateError → Checked
 checked none = Passed
 checked (some e) = Refused e
 
 -- a state that passes 1, 2 and 3
-pub record Usable (top : ℕ) (b : BookReconstructor) (ws sg : List ℕ) : Type 0 where
+pub record Usable (top : ℕ) (b : BookReconstructor) (ws : List ℕ) (records : ℕ) : Type 0 where
   pub within : overCeiling top (b .rules) ≡ false
-  pub lent : tooShort (b .rules) (lengthsOf ws sg) (viewOf b ws sg) ≡ false
+  pub lent : tooShort (b .rules) (lengthsWith ws records) (b .segments) ≡ false
+  pub sound : broken b ws ≡ false
+
+-- what of it is about the state and the rows
+pub record Trusted (top : ℕ) (b : BookReconstructor) (ws : List ℕ) : Type 0 where
+  pub within : overCeiling top (b .rules) ≡ false
+  pub room : 8 * b .rules .«max_orders» ≤ length ws
   pub sound : broken b ws ≡ false

@@ -50,15 +50,15 @@ pub fn broken(book: BookReconstructor, rows: &[u64]) -> bool
     unsettled(status, n, book.segments)
 }
 
-// 1, 2 and 3 of a call that is lent rows and the segment list, eight words a record.
-pub fn own_checks(book: BookReconstructor, rows: &[u64], segments: &[u64]) -> Checked
-    ensures { λ r. ⌜ r ≡ checked (bookRefusal ceiling book (now (rows .entry)) (now (segments .entry))) ⌝ }
+// 1, 2 and 3 of a call that is lent rows and a segment list of `lent` records.
+pub fn own_checks(book: BookReconstructor, rows: &[u64], lent: usize) -> Checked
+    ensures { λ r. ⌜ r ≡ checked (bookRefusal ceiling book (now (rows .entry)) lent) ⌝ }
 {
     let rules = book.rules;
     if over_ceiling(rules) {
         return Checked::Refused(StateError::LimitAboveCeiling);
     }
-    if (rows.len() < 8 * rules.max_orders) | (segments.len() / 8 < book.segments) {
+    if (rows.len() < 8 * rules.max_orders) | (lent < book.segments) {
         return Checked::Refused(StateError::LentTooShort);
     }
     if broken(book, rows) {

@@ -15,6 +15,7 @@ use Rattle.reconstructor_answers.specs.declared.ApplyAnswer.{ApplyAnswer}
 use Rattle.reconstructor_answers.specs.declared.ApplyAnswer.the-variants as answers
 use Rattle.reconstructor_answers.specs.Numbers.{answerNumber}
 use Rattle.reconstructor_counts.specs.Counts.{saturated, countedAt}
+use Rattle.reconstructor_segments.specs.declared.Segment.{Segment}
 use Rattle.reconstructor_segments.specs.declared.SegmentName.{SegmentName}
 use Rattle.reconstructor_segments.specs.Segments.{sameSegment}
 use Rattle.reconstructor_state.specs.declared.VenueRules.{VenueRules}
@@ -49,7 +50,7 @@ otherSegment h name segments = h .ended || (eqb segments 0 || not (sameSegment (
 -- 1, 2, 3, 9, 5; `three` says whether number 3 arises
 unfoldable pub stepRefusal : ℕ → VenueRules → Lengths → Bool → View → SegmentName → Handshake → L3Message → Option StepAnswer
 stepRefusal top v lent three w name h m =
-    first (stateRefusal top v lent three w) (λ (e : StateError). Stepped (answers.Unusable e))
+    first (stateRefusal top v lent three (w .segments)) (λ (e : StateError). Stepped (answers.Unusable e))
     (check (otherSegment h name (w .segments)) OtherSegment (check (not (eventInRange (m .event))) (Stepped answers.AmountOutOfRange) none))
 
 -- "the same product at or below that segment's start_seq"
@@ -63,9 +64,9 @@ pub record StepParts : Type 0 where
   pub handshake : Handshake
   pub book : BookReconstructor
   pub rows : List ℕ
-  pub segments : List ℕ
+  pub segments : List Segment
 
-abbrev pub stepLeaves : StepReply → List ℕ → List ℕ → StepParts
+abbrev pub stepLeaves : StepReply → List ℕ → List Segment → StepParts
 stepLeaves r ws sg = record { answer = r .answer; handshake = r .handshake; book = r .book; rows = ws; segments = sg }
 
 abbrev pub with : Handshake → Bool → ℕ → Handshake
@@ -81,7 +82,7 @@ after h answers.NotBootstrapped = h
 after h (answers.Invalidated i) = with h true (h .applied)
 after h (answers.AwaitingSnapshot i) = with h true (h .applied)
 
-abbrev pub unchanged : StepAnswer → Handshake → BookReconstructor → List ℕ → List ℕ → StepParts
+abbrev pub unchanged : StepAnswer → Handshake → BookReconstructor → List ℕ → List Segment → StepParts
 unchanged a h b ws sg = record { answer = a; handshake = h; book = b; rows = ws; segments = sg }
 
 -- `apply` has decided
@@ -90,14 +91,14 @@ decided h p =
     record { answer = Stepped (p .answer); handshake = after h (p .answer); book = p .book; rows = p .rows; segments = p .segments }
 
 -- "dropped and counted": handshake_dropped is count 8
-abbrev pub dropped : Handshake → BookReconstructor → List ℕ → List ℕ → StepParts
+abbrev pub dropped : Handshake → BookReconstructor → List ℕ → List Segment → StepParts
 dropped h b ws sg = unchanged Dropped h (withCounts b (countedAt 8 (b .counts))) ws sg
 
-unfoldable pub settledStep : Option StepAnswer → StepParts → Handshake → BookReconstructor → List ℕ → List ℕ → StepParts
+unfoldable pub settledStep : Option StepAnswer → StepParts → Handshake → BookReconstructor → List ℕ → List Segment → StepParts
 settledStep (some a) p h b ws sg = unchanged a h b ws sg
 settledStep none p h b ws sg = p
 
-unfoldable pub stepped : ℕ → Handshake → BookReconstructor → List ℕ → List ℕ → L3Message → StepParts
+unfoldable pub stepped : ℕ → Handshake → BookReconstructor → List ℕ → List Segment → L3Message → StepParts
 stepped top h b ws sg m =
     settledStep (stepRefusal top (b .rules) (lengthsOf ws sg) (broken b ws) (viewOf b ws sg) (segmentOf b) h m)
     (cond (drops (b .«product_id») (viewOf b ws sg .startSeq) m) (dropped h b ws sg) (decided h (applied top b ws sg m)))

@@ -3,16 +3,15 @@ use message::L3Message;
 use message::ProductId;
 use reconstructor_answers::ApplyAnswer;
 use reconstructor_checks::Checked;
+use reconstructor_segments::Segment;
 use reconstructor_segments::SegmentName;
 use reconstructor_state::BookReconstructor;
 ghost use mathlib.Core.Path.{_≡_};
-ghost use Prim.Native.Nat.{_*_, _-_, _≤_, _<_};
-ghost use lib.ListN.{length};
 ghost use Rattle.book.specs.Rows.{ceiling};
-ghost use Rattle.reconstructor_segments.specs.Segments.{segmentAt};
 ghost use Rattle.reconstructor_state.specs.State.{segmentOf};
-ghost use Rattle.reconstructor_checks.specs.Own.{Usable};
+ghost use Rattle.reconstructor_checks.specs.Own.{Trusted};
 ghost use Rattle.reconstructor_handshake.specs.Step.{newHandshake, stepNumber, otherSegment, drops, with, after, stepLeaves, stepped};
+ghost use Rattle.reconstructor_handshake.specs.ByValue.{stepWorked, stepTo, steppedTo, stepReplyOf};
 
 // A handshake for one segment, with how many messages it applied. It hands itself back at each step.
 pub struct Handshake {
@@ -33,6 +32,33 @@ pub struct StepReply {
     pub handshake: Handshake,
     pub book: BookReconstructor,
     pub answer: StepAnswer,
+}
+
+// The same, with what the step makes of the last segment's record.
+pub struct StepWork {
+    pub handshake: Handshake,
+    pub book: BookReconstructor,
+    pub answer: StepAnswer,
+    pub segment: Segment,
+}
+
+fn segment_of(work: StepWork) -> Segment
+    ensures { λ r. ⌜ r ≡ work .segment ⌝ }
+{
+    work.segment
+}
+
+fn reply_of(work: StepWork) -> StepReply
+    ensures { λ r. ⌜ r ≡ stepReplyOf work ⌝ }
+{
+    let handshake = work.handshake;
+    let book = work.book;
+    let answer = work.answer;
+    StepReply {
+        handshake,
+        book,
+        answer,
+    }
 }
 
 impl StepAnswer {
@@ -107,51 +133,71 @@ impl Handshake {
         }
     }
 
-    // A step that changes nothing.
-    fn unchanged(self, book: BookReconstructor, answer: StepAnswer) -> StepReply
-        ensures { λ r. ⌜ r ≡ record { answer = answer; handshake = self; book = book } ⌝ }
+    // A step that changes neither handshake nor record.
+    fn unchanged(self, book: BookReconstructor, last: Segment, answer: StepAnswer) -> StepWork
+        ensures { λ r. ⌜ r ≡ record { answer = answer; handshake = self; book = book; segment = last } ⌝ }
     {
-        StepReply {
+        StepWork {
             handshake: self,
             book,
             answer,
+            segment: last,
         }
     }
 
-    // A step of a state that passes 1, 2 and 3.
+    // A step of a state that passes 1, 2 and 3, with the last segment's record by value.
     fn step_trusted(
         self,
         book: BookReconstructor,
         rows: &mut [u64],
-        segments: &mut [u64],
+        last: Segment,
         message: L3Message,
-    ) -> StepReply
-        requires { ⌜ Usable ceiling book (now rows) (now segments) ⌝ }
-        ensures { λ r. ⌜ stepLeaves r (now (rows .exit)) (now (segments .exit)) ≡ stepped ceiling self book (now (rows .entry)) (now (segments .entry)) message ⌝ }
+    ) -> StepWork
+        requires { ⌜ Trusted ceiling book (now rows) ⌝ }
+        ensures { λ r. ⌜ stepWorked r (now (rows .exit)) ≡ stepTo self book (now (rows .entry)) last message ⌝ }
     {
         if self.is_other(book) {
-            return self.unchanged(book, StepAnswer::OtherSegment);
+            return self.unchanged(book, last, StepAnswer::OtherSegment);
         }
         let event = message.event;
         if !message::event_in_range(event) {
-            return self.unchanged(book, StepAnswer::Stepped(ApplyAnswer::AmountOutOfRange));
+            let answer = StepAnswer::Stepped(ApplyAnswer::AmountOutOfRange);
+            return self.unchanged(book, last, answer);
         }
         let product = book.product_id;
-        let last = reconstructor_segments::get_segment(segments, book.segments - 1);
         if drops(product, last.start_seq, message) {
             let counts = book.counts;
-            return self.unchanged(
-                book.with_counts(counts.handshake_dropped()),
-                StepAnswer::Dropped,
-            );
+            let counted = book.with_counts(counts.handshake_dropped());
+            return self.unchanged(counted, last, StepAnswer::Dropped);
         }
-        let reply = reconstructor::apply_trusted(book, rows, segments, message);
-        let next = reply.book;
-        let answer = reply.answer;
-        StepReply {
+        let work = reconstructor::apply_trusted(book, rows, last, message);
+        let next = work.book;
+        let answer = work.answer;
+        let segment = work.segment;
+        StepWork {
             handshake: self.after(answer),
             book: next,
             answer: StepAnswer::Stepped(answer),
+            segment,
+        }
+    }
+
+    // A step with the last segment's record by value, of a list of `lent` records.
+    pub fn step_by_value(
+        self,
+        book: BookReconstructor,
+        rows: &mut [u64],
+        lent: usize,
+        last: Segment,
+        message: L3Message,
+    ) -> StepWork
+        ensures { λ r. ⌜ stepWorked r (now (rows .exit)) ≡ steppedTo ceiling self book (now (rows .entry)) lent last message ⌝ }
+    {
+        match reconstructor_checks::own_checks(book, rows, lent) {
+            Checked::Refused(why) => {
+                self.unchanged(book, last, StepAnswer::Stepped(ApplyAnswer::Unusable(why)))
+            }
+            Checked::Passed => self.step_trusted(book, rows, last, message),
         }
     }
 
@@ -160,16 +206,16 @@ impl Handshake {
         mut self,
         book: BookReconstructor,
         rows: &mut [u64],
-        segments: &mut [u64],
+        segments: &mut [Segment],
         message: L3Message,
     ) -> StepReply
         ensures { λ r. ⌜ stepLeaves r (now (rows .exit)) (now (segments .exit)) ≡ stepped ceiling self book (now (rows .entry)) (now (segments .entry)) message ⌝ }
     {
-        match reconstructor_checks::own_checks(book, rows, segments) {
-            Checked::Refused(why) => {
-                self.unchanged(book, StepAnswer::Stepped(ApplyAnswer::Unusable(why)))
-            }
-            Checked::Passed => self.step_trusted(book, rows, segments, message),
-        }
+        let count = book.segment_count();
+        let last = reconstructor_segments::last_segment(segments, count);
+        let work = self.step_by_value(book, rows, segments.len(), last, message);
+        let segment = segment_of(work);
+        reconstructor_segments::rewrite_last(segments, count, segment);
+        reply_of(work)
     }
 }

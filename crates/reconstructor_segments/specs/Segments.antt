@@ -1,39 +1,35 @@
--- Segment records of eight words. 01, Segments: "Each record has start_seq, last_good_seq, end, first_us and last_us (zero until a message is
--- accepted)." The end takes four words: its code (0 open, 1 superseded, else the number of the reason), and of a reason the last good sequence,
+-- Segment records. 01, Segments: "Each record has start_seq, last_good_seq, end, first_us and last_us (zero until a message is
+-- accepted)." The end takes four fields: its code (0 open, 1 superseded, else the number of the reason), and of a reason the last good sequence,
 -- the offending one, and which reason of 38.
-use Prim.Native.Nat.{ℕ, _+_, _*_, _-_}
+use Prim.Native.Nat.{ℕ, _-_}
 use mathlib.Core.Bool.{Bool, _&&_, cond}
-use mathlib.Core.List.{List, [], _∷_, _++_}
+use mathlib.Core.List.{List}
 use lib.Dec.{eqb}
-use lib.ListN.{getD, take, drop}
+use lib.ListN.{getD}
 use Rattle.reconstructor_segments.specs.declared.Segment.{Segment}
 use Rattle.reconstructor_segments.specs.declared.SegmentName.{SegmentName}
 use Rattle.reconstructor_answers.specs.declared.Invalidation.{Invalidation}
 use Rattle.reconstructor_answers.specs.Numbers.{kindNumber, kindDetail}
 
--- ---- on words
+-- ---- a list of records
 
--- record i
-abbrev pub segmentAt : List ℕ → ℕ → Segment
-segmentAt ws i =
+-- what stands past a list's end
+abbrev pub noSegment : Segment
+noSegment =
     record {
-      «start_seq» = getD ws (8 * i) 0;
-      «last_good_seq» = getD ws (8 * i + 1) 0;
-      end = getD ws (8 * i + 2) 0;
-      «end_good» = getD ws (8 * i + 3) 0;
-      «end_seq» = getD ws (8 * i + 4) 0;
-      «end_detail» = getD ws (8 * i + 5) 0;
-      «first_us» = getD ws (8 * i + 6) 0;
-      «last_us» = getD ws (8 * i + 7) 0;
+      «start_seq» = 0;
+      «last_good_seq» = 0;
+      end = 0;
+      «end_good» = 0;
+      «end_seq» = 0;
+      «end_detail» = 0;
+      «first_us» = 0;
+      «last_us» = 0;
     }
 
-abbrev pub segmentWords : Segment → List ℕ
-segmentWords g =
-    g .«start_seq» ∷ g .«last_good_seq» ∷ g .end ∷ g .«end_good» ∷ g .«end_seq» ∷ g .«end_detail» ∷ g .«first_us» ∷ g .«last_us» ∷ []
-
--- record i replaced
-unfoldable pub setSegment : List ℕ → ℕ → Segment → List ℕ
-setSegment ws i g = take (8 * i) ws ++ segmentWords g ++ drop (8 * i + 8) ws
+-- record i
+abbrev pub segmentAt : List Segment → ℕ → Segment
+segmentAt sg i = getD sg i noSegment
 
 -- ---- what happens to a record
 

@@ -1,11 +1,11 @@
-// Segment records, eight words each in a lent list, and segment names.
+// Segment records in a lent list, and segment names.
 use reconstructor_answers::Invalidation;
 ghost use mathlib.Core.Path.{_≡_};
-ghost use Prim.Native.Nat.{_+_, _*_, _≤_};
-ghost use lib.ListN.{length};
-ghost use Rattle.reconstructor_segments.specs.Segments.{segmentAt, setSegment, started, superseded, extended, ended, elapsed, acceptedMessages, sameSegment};
+ghost use Prim.Native.Nat.{_-_};
+ghost use lib.ListN.{set};
+ghost use Rattle.reconstructor_segments.specs.Segments.{segmentAt, noSegment, started, superseded, extended, ended, elapsed, acceptedMessages, sameSegment};
 
-// A run of messages applied on one snapshot: the eight words of its record, in their order.
+// A run of messages applied on one snapshot.
 pub struct Segment {
     // The snapshot's sequence.
     pub start_seq: u64,
@@ -22,44 +22,58 @@ pub struct Segment {
     pub last_us: u64,
 }
 
-// Record `i` of a list.
-pub fn get_segment(segments: &[u64], i: usize) -> Segment
-    requires { ⌜ 8 * i + 8 ≤ length (now segments) ⌝ }
-    ensures { λ r. ⌜ r ≡ segmentAt (now (segments .entry)) i ⌝ }
+// The place of the last of `count` records; 0 where there is none.
+pub fn last_place(count: usize) -> usize
+    ensures { λ r. ⌜ r ≡ count - 1 ⌝ }
 {
-    let at = 8 * i;
-    Segment {
-        start_seq: segments[at],
-        last_good_seq: segments[at + 1],
-        end: segments[at + 2],
-        end_good: segments[at + 3],
-        end_seq: segments[at + 4],
-        end_detail: segments[at + 5],
-        first_us: segments[at + 6],
-        last_us: segments[at + 7],
+    if count == 0 {
+        return 0;
+    }
+    count - 1
+}
+
+// The last of a list's first `count` records; zeros where the list has no such record.
+pub fn last_segment(segments: &[Segment], count: usize) -> Segment
+    ensures { λ r. ⌜ r ≡ segmentAt (now (segments .entry)) (count - 1) ⌝ }
+{
+    let at = last_place(count);
+    if at < segments.len() {
+        return segments[at];
+    }
+    Segment::none()
+}
+
+// Writes the last of a list's first `count` records; nothing where the list has no such record.
+pub fn rewrite_last(segments: &mut [Segment], count: usize, segment: Segment)
+    ensures { λ _. ⌜ now (segments .exit) ≡ set (now (segments .entry)) (count - 1) segment ⌝ }
+{
+    let at = last_place(count);
+    if at < segments.len() {
+        segments[at] = segment;
     }
 }
 
-// Writes record `i`.
-pub fn set_segment(segments: &mut [u64], i: usize, segment: Segment)
-    requires { ⌜ 8 * i + 8 ≤ length (now segments) ⌝ }
-    ensures { λ _. ⌜ now (segments .exit) ≡ setSegment (now (segments .entry)) i segment ⌝ }
+// Writes the record after a list's first `count`; nothing where there is no room.
+pub fn append_segment(segments: &mut [Segment], count: usize, segment: Segment)
+    ensures { λ _. ⌜ now (segments .exit) ≡ set (now (segments .entry)) count segment ⌝ }
 {
-    let at = 8 * i;
-    segments[at] = segment.start_seq;
-    segments[at + 1] = segment.last_good_seq;
-    segments[at + 2] = segment.end;
-    segments[at + 3] = segment.end_good;
-    segments[at + 4] = segment.end_seq;
-    segments[at + 5] = segment.end_detail;
-    segments[at + 6] = segment.first_us;
-    segments[at + 7] = segment.last_us;
+    let at = count;
+    if at < segments.len() {
+        segments[at] = segment;
+    }
 }
 
 impl Segment {
     pub const OPEN: u64 = 0;
 
     pub const SUPERSEDED: u64 = 1;
+
+    // What stands past a list's end: zeros.
+    pub fn none() -> Self
+        ensures { λ r. ⌜ r ≡ noSegment ⌝ }
+    {
+        Self::started(0)
+    }
 
     // The record that a snapshot starts.
     pub fn started(sequence: u64) -> Self

@@ -1,5 +1,5 @@
 -- The state by value, and the view of it that the rules go by.
-use Prim.Native.Nat.{ℕ, _-_, _/_}
+use Prim.Native.Nat.{ℕ, _-_}
 use mathlib.Core.List.{List}
 use lib.ListN.{length}
 use Rattle.message.specs.declared.ProductId.{ProductId}
@@ -12,6 +12,7 @@ use Rattle.reconstructor_state.specs.declared.Status.the-variants.{Empty
 use Rattle.reconstructor_counts.specs.declared.MessageCounts.{MessageCounts}
 use Rattle.reconstructor_state.specs.declared.BookReconstructor.{BookReconstructor}
 use Rattle.reconstructor_counts.specs.Counts.{noCounts}
+use Rattle.reconstructor_segments.specs.declared.Segment.{Segment}
 use Rattle.reconstructor_segments.specs.declared.SegmentName.{SegmentName}
 use Rattle.reconstructor_segments.specs.Segments.{segmentAt}
 
@@ -55,20 +56,21 @@ pub record View : Type 0 where
   pub segments : ℕ
   pub line : List Entry
 
--- what a state with lent rows and a lent segment list shows of it
-abbrev pub viewOf : BookReconstructor → List ℕ → List ℕ → View
-viewOf b ws sg =
-    record {
-      status = b .status;
-      startSeq = segmentAt sg (b .segments - 1) .«start_seq»;
-      segments = b .segments;
-      line = lineOf (rowsOf ws (b .rows));
-    }
+-- what a state shows of it with lent rows, the last segment's record being g; and with a lent segment list
+abbrev pub viewWith : BookReconstructor → List ℕ → Segment → View
+viewWith b ws g =
+    record { status = b .status; startSeq = g .«start_seq»; segments = b .segments; line = lineOf (rowsOf ws (b .rows)) }
+
+abbrev pub viewOf : BookReconstructor → List ℕ → List Segment → View
+viewOf b ws sg = viewWith b ws (segmentAt sg (b .segments - 1))
 
 -- the lengths of what a call is lent: words of rows, and segment records
 pub record Lengths : Type 0 where
   pub rows : ℕ
   pub segments : ℕ
 
-abbrev pub lengthsOf : List ℕ → List ℕ → Lengths
-lengthsOf ws sg = record { rows = length ws; segments = length sg / 8 }
+abbrev pub lengthsWith : List ℕ → ℕ → Lengths
+lengthsWith ws lent = record { rows = length ws; segments = lent }
+
+abbrev pub lengthsOf : List ℕ → List Segment → Lengths
+lengthsOf ws sg = lengthsWith ws (length sg)

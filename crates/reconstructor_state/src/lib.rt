@@ -112,6 +112,13 @@ impl BookReconstructor {
         }
     }
 
+    // How many segment records are in use.
+    pub fn segment_count(self) -> usize
+        ensures { λ r. ⌜ r ≡ self .segments ⌝ }
+    {
+        self.segments
+    }
+
     // The name of the segment it is in.
     pub fn segment_name(self) -> SegmentName
         ensures { λ r. ⌜ r ≡ segmentOf self ⌝ }

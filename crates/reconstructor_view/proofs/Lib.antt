@@ -1,1 +1,3 @@
 pub mod View
+pub mod ByValue
+pub mod SegmentShell

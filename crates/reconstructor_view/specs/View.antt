@@ -1,5 +1,5 @@
 -- Reads of a book: when they are turned away, and those whose answer is a value. 01, Reads: "1, 2, 3, then 15 or 18".
-use Prim.Native.Nat.{ℕ, _*_, _/_}
+use Prim.Native.Nat.{ℕ, _+_, _*_}
 use mathlib.Core.Bool.{Bool, false, _||_, cond}
 use mathlib.Core.List.{List}
 use mathlib.Core.Option.{Option, none, some}
@@ -17,6 +17,7 @@ use Rattle.reconstructor_answers.specs.declared.StateError.{StateError}
 use Rattle.reconstructor_answers.specs.declared.StateError.the-variants.{LimitAboveCeiling, LentTooShort, MalformedBook}
 use Rattle.reconstructor_state.specs.declared.BookReconstructor.{BookReconstructor}
 use Rattle.reconstructor_state.specs.Checks.{check, first}
+use Rattle.reconstructor_segments.specs.declared.Segment.{Segment}
 use Rattle.reconstructor_segments.specs.Segments.{segmentAt}
 use Rattle.reconstructor_state.specs.State.{lastOf}
 use Rattle.reconstructor_checks.specs.Own.{overCeiling, broken}
@@ -94,8 +95,13 @@ invalidationOf statuses.Empty = reasons.NotInvalid
 invalidationOf (statuses.Valid last) = reasons.NotInvalid
 invalidationOf (statuses.Invalidated i) = reasons.InForce i
 
--- the record at a place: one of the book's, and within the list
-unfoldable pub segmentRead : BookReconstructor → List ℕ → ℕ → SegmentAnswer
-segmentRead b sg k =
-    cond (leb (b .segments) k) records.NoRecord
-    (cond (leb (length sg / 8) k) records.NoRecord (records.Record (segmentAt sg k)))
+-- the record at a place: one of the book's, and within the list. Of a list of so many records, with the record by value
+unfoldable pub segmentReadTo : BookReconstructor → ℕ → ℕ → Segment → SegmentAnswer
+segmentReadTo b lent k g = cond (leb (b .segments) k) records.NoRecord (cond (leb lent k) records.NoRecord (records.Record g))
+
+abbrev pub segmentRead : BookReconstructor → List Segment → ℕ → SegmentAnswer
+segmentRead b sg k = segmentReadTo b (length sg) k (segmentAt sg k)
+
+-- how many records there are up to a place, in a machine number
+abbrev pub recordsTo : ℕ → ℕ
+recordsTo k = cond (ltb k 18446744073709551615) (k + 1) k

@@ -12,7 +12,7 @@ ghost use mathlib.Core.Bool.{false};
 ghost use Rattle.book.specs.Rows.{ceiling};
 ghost use Rattle.reconstructor_state.specs.State.{lastOf};
 ghost use Rattle.reconstructor_checks.specs.Own.{checked};
-ghost use Rattle.reconstructor_view.specs.View.{standing, stateRead, bookView, viewed, lastSequence, bestRead, auditRead, invalidationOf, segmentRead};
+ghost use Rattle.reconstructor_view.specs.View.{standing, stateRead, bookView, viewed, lastSequence, bestRead, auditRead, invalidationOf, recordsTo, segmentReadTo, segmentRead};
 ghost use Rattle.reconstructor_view.specs.Numbers.{viewErrorNumber};
 
 // Why no valid book is available: 1, 2, 3, 15, 18.
@@ -150,15 +150,39 @@ pub fn invalidation(book: BookReconstructor) -> InvalidationAnswer
     }
 }
 
-// The record of the segment at a place of the list. With the counts, which are a field of the book, it makes up the Rust's manifest.
-pub fn segment(book: BookReconstructor, segments: &[u64], place: usize) -> SegmentAnswer
-    ensures { λ r. ⌜ r ≡ segmentRead book (now (segments .entry)) place ⌝ }
+// The number of records up to a place, at most the largest number.
+fn records_to(place: usize) -> usize
+    ensures { λ r. ⌜ r ≡ recordsTo place ⌝ }
+{
+    if place < 18446744073709551615 {
+        return place + 1;
+    }
+    place
+}
+
+// `segment` with the record by value, of a list of `lent` records.
+pub fn segment_by_value(
+    book: BookReconstructor,
+    lent: usize,
+    place: usize,
+    record: Segment,
+) -> SegmentAnswer
+    ensures { λ r. ⌜ r ≡ segmentReadTo book lent place «record» ⌝ }
 {
     if place >= book.segments {
         return SegmentAnswer::NoRecord;
     }
-    if place >= segments.len() / 8 {
+    if place >= lent {
         return SegmentAnswer::NoRecord;
     }
-    SegmentAnswer::Record(reconstructor_segments::get_segment(segments, place))
+    SegmentAnswer::Record(record)
+}
+
+// The record of the segment at a place of the list. With the counts, which are a field of the book, it makes up the Rust's manifest.
+pub fn segment(book: BookReconstructor, segments: &[Segment], place: usize) -> SegmentAnswer
+    ensures { λ r. ⌜ r ≡ segmentRead book (now (segments .entry)) place ⌝ }
+{
+    let count = records_to(place);
+    let record = reconstructor_segments::last_segment(segments, count);
+    segment_by_value(book, segments.len(), place, record)
 }

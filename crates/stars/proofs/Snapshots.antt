@@ -8,7 +8,6 @@ use Rattle.piece.specs.Piece.{wordAt, amountAt, orderIdAt, productIdAt, bidsAt,
 use Rattle.book.specs.Rows.{rowsFrom, stored, sideOf}
 use Rattle.book.specs.Broken.{rowBroken}
 use Rattle.reconstructor_counts.specs.Counts.{saturated}
-use Rattle.reconstructor_segments.specs.Segments.{setSegment}
 use Rattle.reconstructor_state.specs.Checks.{check, first}
 use Rattle.reconstructor_checks.specs.Own.{broken, stateRefusal}
 use Rattle.reconstructor_bootstrap.specs.Snapshot.{lineRefusal, snapshotRefusal, acceptRefusal, bootRefusal}
@@ -16,5 +15,5 @@ use Rattle.reconstructor_bootstrap.specs.Bootstrap.{closed, bootstrapped}
 use Rattle.stars.specs.Snapshots.{Examples}
 
 pub examples : Examples
-unfolding check first stateRefusal broken rowBroken sideOf sameId sameProduct saturated rowsFrom stored setSegment inRange orderInRange ordersInRange part little big littleBytes bigBytes wordAt amountAt orderIdAt productIdAt bidsAt asksAt snapshotShaped orderFrom orderAt ordersFrom snapshotOf readSnapshot lineRefusal snapshotRefusal acceptRefusal bootRefusal closed bootstrapped
+unfolding check first stateRefusal broken rowBroken sideOf sameId sameProduct saturated rowsFrom stored inRange orderInRange ordersInRange part little big littleBytes bigBytes wordAt amountAt orderIdAt productIdAt bidsAt asksAt snapshotShaped orderFrom orderAt ordersFrom snapshotOf readSnapshot lineRefusal snapshotRefusal acceptRefusal bootRefusal closed bootstrapped
 examples = record { made = refl; again = refl; kept = refl; numbers = refl; orders = refl }

@@ -8,7 +8,6 @@ use Rattle.book.specs.Rows.{rowsFrom, stored, sideOf}
 use Rattle.book.specs.Broken.{rowBroken}
 use Rattle.reconstructor_state.specs.Checks.{check, first}
 use Rattle.reconstructor_counts.specs.Counts.{saturated}
-use Rattle.reconstructor_segments.specs.Segments.{setSegment}
 use Rattle.reconstructor_checks.specs.Own.{broken, stateRefusal}
 use Rattle.reconstructor_plan.specs.Rules.{openRefusal, doneRefusal, makerRefusal, changeRefusal, sizeRefusal, eventRefusal, effect, counterOf, eventDeed}
 use Rattle.reconstructor.specs.Refusals.{admitRefusal, gateRefusal, turnRefusal}
@@ -22,5 +21,5 @@ use Rattle.queue.specs.Estimates.{ownViewed, aheadRefusal, tallied, aheadOf}
 use Rattle.stars.specs.Stars.{Stars}
 
 pub stars : Stars
-unfolding applied gated settled recorded accepted acceptedReply invalidatedReply refusedReply turnRefusal gateRefusal admitRefusal stateRefusal broken eventDeed counterOf effect eventRefusal sizeRefusal changeRefusal makerRefusal doneRefusal openRefusal check first saturated setSegment rowsFrom stored sideOf rowBroken inRange optionalInRange eventInRange differs givenDiffers absentOrDiffers sameId sameProduct viewRefusal readRefusal auditedOf shown levelRead ownViewed aheadRefusal tallied aheadOf entriesFrom stepped settledStep stepRefusal
+unfolding applied gated settled recorded accepted acceptedReply invalidatedReply refusedReply turnRefusal gateRefusal admitRefusal stateRefusal broken eventDeed counterOf effect eventRefusal sizeRefusal changeRefusal makerRefusal doneRefusal openRefusal check first saturated rowsFrom stored sideOf rowBroken inRange optionalInRange eventInRange differs givenDiffers absentOrDiffers sameId sameProduct viewRefusal readRefusal auditedOf shown levelRead ownViewed aheadRefusal tallied aheadOf entriesFrom stepped settledStep stepRefusal
 stars = record { numbers = refl; snapshots = examples; steps = refl; reads = refl; c1 = refl; c2 = refl; c2-ahead = refl; c2-rows = refl; c2-list = refl; c3-rows = refl; c3-applied = refl }

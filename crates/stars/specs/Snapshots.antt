@@ -9,6 +9,7 @@ use Rattle.message.specs.declared.ProductId.{ProductId}
 use Rattle.message.specs.declared.SnapshotOrder.{SnapshotOrder}
 use Rattle.piece.specs.Encode.{snapshotBytes}
 use Rattle.book.specs.Rows.{ceiling}
+use Rattle.reconstructor_segments.specs.declared.Segment.{Segment}
 use Rattle.reconstructor_state.specs.declared.Status.the-variants.{Valid}
 use Rattle.reconstructor_state.specs.declared.BookReconstructor.{BookReconstructor}
 use Rattle.reconstructor_counts.specs.Counts.{noCounts, countedAt}
@@ -37,12 +38,29 @@ abbrev piece : ProductId → ℕ → List SnapshotOrder → List SnapshotOrder �
 piece product sequence bids asks =
     snapshotBytes (record { «product_id» = product; sequence = sequence; bids = bids; asks = asks })
 
--- before any snapshot, with words of any contents in its memory
+-- before any snapshot, with words and records of any contents in its memory
 abbrev fresh : ℕ → ℕ → BookReconstructor
 fresh orders levels = newBook productP (limitedRules orders levels) 1
 
 abbrev any : List ℕ
 any = replicate 24 7
+
+-- a segment's record: start_seq, last_good_seq, the four fields of its end, first_us and last_us
+abbrev pub segment : ℕ → ℕ → ℕ → ℕ → ℕ → ℕ → ℕ → ℕ → Segment
+segment start good end endGood endSeq detail first last =
+    record {
+      «start_seq» = start;
+      «last_good_seq» = good;
+      end = end;
+      «end_good» = endGood;
+      «end_seq» = endSeq;
+      «end_detail» = detail;
+      «first_us» = first;
+      «last_us» = last;
+    }
+
+abbrev anyRecord : Segment
+anyRecord = segment 7 7 7 7 7 7 7 7
 
 -- ---- E
 
@@ -52,11 +70,11 @@ bookE = bootedBook (fresh 3 3) 100 2
 abbrev rowsE : List ℕ
 rowsE = 0 ∷ 1 ∷ 10 ∷ 2 ∷ 0 ∷ 100 ∷ 0 ∷ 0 ∷ 0 ∷ 2 ∷ 12 ∷ 3 ∷ 1 ∷ 100 ∷ 0 ∷ 0 ∷ replicate 8 7
 
-abbrev segmentsE : List ℕ
-segmentsE = 100 ∷ 100 ∷ 0 ∷ 0 ∷ 0 ∷ 0 ∷ 0 ∷ 0 ∷ replicate 8 7
+abbrev segmentsE : List Segment
+segmentsE = segment 100 100 0 0 0 0 0 0 ∷ anyRecord ∷ []
 
 -- a call on E, and what becomes of E
-abbrev onE : List ℕ → List ℕ → Parts
+abbrev onE : List Segment → List ℕ → Parts
 onE sg bytes = bootstrapped ceiling bookE rowsE sg bytes
 
 abbrev number : Parts → ℕ
@@ -69,11 +87,11 @@ numberE bids asks = number (onE segmentsE (piece productP 101 bids asks))
 -- the same of a fresh book with limits of its own
 abbrev numberFresh : ℕ → ℕ → List SnapshotOrder → List SnapshotOrder → ℕ
 numberFresh orders levels bids asks =
-    number (bootstrapped ceiling (fresh orders levels) any any (piece productP 100 bids asks))
+    number (bootstrapped ceiling (fresh orders levels) any (replicate 3 anyRecord) (piece productP 100 bids asks))
 
 pub record Examples : Type 0 where
   -- E is what its snapshot makes of a fresh book
-  pub made : bootstrapped ceiling (fresh 3 3) any (replicate 16 7) (piece productP 100 (orderA ∷ []) (orderB ∷ []))
+  pub made : bootstrapped ceiling (fresh 3 3) any (replicate 2 anyRecord) (piece productP 100 (orderA ∷ []) (orderB ∷ []))
       ≡ record { answer = Bootstrapped; book = bookE; rows = rowsE; segments = segmentsE }
   -- a second one supersedes its segment and zeroes the row that it no longer needs
   pub again : onE segmentsE (piece productP 90 [] (orderA ∷ []))
@@ -81,7 +99,7 @@ pub record Examples : Type 0 where
         answer = Bootstrapped;
         book = record { «product_id» = productP; rules = limitedRules 3 3; number = 1; status = Valid 90; rows = 1; segments = 2; counts = noCounts };
         rows = 0 ∷ 1 ∷ 10 ∷ 2 ∷ 1 ∷ 90 ∷ 0 ∷ 0 ∷ replicate 8 0 ++ replicate 8 7;
-        segments = 100 ∷ 100 ∷ 1 ∷ 0 ∷ 0 ∷ 0 ∷ 0 ∷ 0 ∷ 90 ∷ 90 ∷ 0 ∷ 0 ∷ 0 ∷ 0 ∷ 0 ∷ 0 ∷ [];
+        segments = segment 100 100 1 0 0 0 0 0 ∷ segment 90 90 0 0 0 0 0 0 ∷ [];
       }
   -- 13*: a refused one ends no good segment
   pub kept : onE segmentsE (piece productP 101 (order 1 (pos 5) (pos 1) ∷ []) (order 2 (pos 5) (pos 1) ∷ []))
@@ -93,7 +111,7 @@ pub record Examples : Type 0 where
       number (bootstrapped ceiling bookE (set rowsE 2 0) segmentsE (piece productP 101 [] [])) ∷
       number (onE segmentsE []) ∷
       numberE (order 1 (pos 1000000000000001) (pos 2) ∷ []) [] ∷
-      number (onE (take 8 segmentsE) (piece productP 101 (orderA ∷ []) (orderB ∷ []))) ∷
+      number (onE (take 1 segmentsE) (piece productP 101 (orderA ∷ []) (orderB ∷ []))) ∷
       number (onE segmentsE (piece productQ 101 (orderA ∷ []) (orderB ∷ []))) ∷
       numberE (orderA ∷ []) (orderA ∷ []) ∷
       numberE (order 1 (pos 10) (pos 0) ∷ []) [] ∷

@@ -15,11 +15,11 @@ use Rattle.message.specs.declared.L3Event.the-variants.{Received, Open, Done, M
 use Rattle.message.specs.declared.L3Message.{L3Message}
 use Rattle.book.specs.Line.{volume}
 use Rattle.book.specs.Rows.{ceiling, rowsOf, lineOf}
+use Rattle.reconstructor_segments.specs.declared.Segment.{Segment}
 use Rattle.reconstructor_state.specs.declared.Status.{Status}
 use Rattle.reconstructor_state.specs.declared.Status.the-variants.{Empty, Valid}
 use Rattle.reconstructor_answers.specs.declared.ApplyAnswer.{ApplyAnswer}
 use Rattle.reconstructor_state.specs.declared.BookReconstructor.{BookReconstructor}
-use Rattle.reconstructor_state.specs.Checks.{first}
 use Rattle.reconstructor_counts.specs.Counts.{largest, noCounts}
 use Rattle.reconstructor_answers.specs.Numbers.{kindNumber, answerNumber}
 use Rattle.reconstructor_state.specs.State.{limitedRules}
@@ -46,7 +46,7 @@ use Rattle.queue.specs.declared.EstimateAnswer.the-variants as estimates
 use Rattle.queue.specs.declared.AheadAnswer.{AheadAnswer}
 use Rattle.queue.specs.declared.AheadAnswer.the-variants as queues
 use Rattle.queue.specs.Numbers.{estimateNumber, aheadNumber}
-use Rattle.stars.specs.Snapshots.{Examples}
+use Rattle.stars.specs.Snapshots.{segment, Examples}
 use Rattle.queue.specs.Estimates.{queueEstimateOwn, volumeAhead}
 
 -- ---- E: "the book of product P, limits 3 and 3, snapshot at 100: buy A price 10 size 2, sell B price 12 size 3 (units)"
@@ -75,8 +75,8 @@ short price =
 abbrev rowsE : List ℕ
 rowsE = short 10 ++ (7 ∷ 9 ∷ [])
 
-abbrev listE : List ℕ
-listE = 100 ∷ 100 ∷ 0 ∷ 0 ∷ 0 ∷ 0 ∷ 0 ∷ 0 ∷ []
+abbrev listE : List Segment
+listE = segment 100 100 0 0 0 0 0 0 ∷ []
 
 abbrev id : ℕ → OrderId
 id k = record { high = 0; low = k }
@@ -107,7 +107,7 @@ at101 e = at 101 e
 pub record Call : Type 0 where
   pub book : BookReconstructor
   pub rows : List ℕ
-  pub list : List ℕ
+  pub list : List Segment
   pub message : L3Message
 
 abbrev after : Call → Parts
@@ -268,7 +268,7 @@ pub record Stars : Type 0 where
   pub c2-ahead : aheadFrom (after matched .book) (after matched .rows) (own (after opened .book) (after opened .rows) o) [] ≡ queues.Ahead (figure 102 0 0)
   -- and the words: B and C move down, the freed row is zeroed, the words past it are untouched, the segment is good to 102
   pub c2-rows : after matched .rows ≡ 0 ∷ 2 ∷ 12 ∷ 3 ∷ 1 ∷ 100 ∷ 0 ∷ 0 ∷ 0 ∷ 3 ∷ 10 ∷ 5 ∷ 2 ∷ 101 ∷ 0 ∷ 0 ∷ 0 ∷ 0 ∷ 0 ∷ 0 ∷ 0 ∷ 0 ∷ 0 ∷ 0 ∷ 9 ∷ []
-  pub c2-list : after matched .segments ≡ 100 ∷ 102 ∷ 0 ∷ 0 ∷ 0 ∷ 0 ∷ 5 ∷ 5 ∷ []
+  pub c2-list : after matched .segments ≡ segment 100 102 0 0 0 0 5 5 ∷ []
   -- C3: "done canceled for Z at 101 changes no row, yet 101 is applied"
   pub c3-rows : after canceled .rows ≡ rowsE
   pub c3-applied : after canceled .book .status ≡ Valid 101

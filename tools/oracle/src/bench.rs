@@ -1,18 +1,21 @@
 //! The benchmarks of docs/PERFORMANCE.md: the port and the Rust on the same input, from one driver, in one run.
 
-mod apply;
 mod books;
 mod bootstrap;
+mod messages;
+mod mix;
 mod pieces;
 mod reads;
 mod rows;
+mod venue;
 
-use std::time::Instant;
+use std::hint::black_box;
+use std::time::{Duration, Instant};
 
 /// Rounds of each measurement; the best one counts, since other work on the machine only adds.
 const ROUNDS: usize = 7;
-/// Resting orders.
-const SIZES: [usize; 4] = [10, 100, 512, 4_096];
+/// The least time of a round of [`round`] and [`round_on`].
+const ROUND: Duration = Duration::from_millis(3);
 
 /// The best round's nanoseconds a call.
 fn best(calls: usize, mut call: impl FnMut()) -> f64 {
@@ -27,13 +30,40 @@ fn best(calls: usize, mut call: impl FnMut()) -> f64 {
         .fold(f64::INFINITY, f64::min)
 }
 
+/// One round's nanoseconds a call, of as many calls as take long enough.
+fn round(mut call: impl FnMut()) -> f64 {
+    let mut calls = 1;
+    loop {
+        let start = Instant::now();
+        for _ in 0..calls {
+            call();
+        }
+        let spent = start.elapsed();
+        if spent >= ROUND {
+            return spent.as_nanos() as f64 / f64::from(calls);
+        }
+        calls *= 2;
+    }
+}
+
+/// The same of `work` on what `fresh` makes, which is made and dropped outside the measured time.
+fn round_on<B>(fresh: impl Fn() -> B, mut work: impl FnMut(&mut B)) -> f64 {
+    let (mut spent, mut calls) = (Duration::ZERO, 0);
+    while spent < ROUND {
+        let mut made = fresh();
+        let start = Instant::now();
+        work(black_box(&mut made));
+        spent += start.elapsed();
+        calls += 1;
+    }
+    spent.as_nanos() as f64 / f64::from(calls)
+}
+
 /// The benchmarks by name.
 const ALL: &[(&str, fn())] = &[
     ("pieces", pieces::run),
     ("rows", rows::run),
-    ("apply", apply::run),
-    ("bootstrap", bootstrap::run),
-    ("reads", reads::run),
+    ("venue", venue::run),
 ];
 
 /// Runs the named benchmarks, or all; an unknown name is refused.

@@ -13,8 +13,9 @@ pub const ORDER_WORDS: usize = 4;
 /// The answers of `apply` and `step` where the book changed, and of `step` where the message was dropped.
 pub use sys::BOOK_CHANGED as CHANGED;
 pub use sys::DROPPED;
-/// The words of a book's state, and of a handshake.
+/// The words of a book's state, and of a handshake; the word of a state that counts the rows.
 pub use sys::HANDSHAKE_WORDS;
+pub use sys::STATE_ROWS;
 pub use sys::STATE_WORDS as BLOCK_WORDS;
 
 /// Reads a message piece into words; the answer is 01's number, 0 for success.

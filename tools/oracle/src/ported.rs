@@ -5,6 +5,7 @@ pub mod cases;
 mod forms;
 mod handshakes;
 mod reads;
+mod replays;
 mod run;
 mod tally;
 
@@ -28,6 +29,8 @@ pub struct Ported {
     seed: u64,
     books: BTreeMap<u8, Book>,
     handshakes: BTreeMap<u8, handshakes::Held>,
+    /// The runs of messages under way, by book.
+    runs: BTreeMap<u8, replays::Run>,
     reads: reads::Reads,
     /// Draws the form of a call's words: from the seed and the call alone, so that a call keeps its form in any list of calls.
     random: Random,
@@ -87,6 +90,7 @@ impl Ported {
             seed,
             books: BTreeMap::new(),
             handshakes: BTreeMap::new(),
+            runs: BTreeMap::new(),
             reads: reads::Reads::default(),
             random: Random::new(seed),
             cases: Cases::default(),
@@ -146,9 +150,11 @@ impl Ported {
             });
             self.cases.add("apply", "message short");
         }
+        self.begin_run(call)?;
         let answer = self.lend(Export::Apply, call, |state, rows, segments| {
             port::apply(state, rows, segments, &words)
         })?;
+        self.note_message(call, &words, answer)?;
         Some(applied(answer, self.books[&call.book].status()))
     }
 
@@ -266,6 +272,7 @@ fn concerns_book(act: &Act) -> bool {
 impl Subject for Ported {
     fn call(&mut self, call: &Call) -> Answer {
         self.random = Random::new(self.seed ^ call.digest());
+        self.before_change(call);
         let reply = self.reply(call);
         self.between(call);
         let Some(Reply {

@@ -1,4 +1,5 @@
-//! Every call of the port beside the Rust and the model. Built with the feature `port` only; SEED, STREAMS and CALLS give another run.
+//! Every call of the port beside the Rust and the model, and each run of messages replayed beside single calls. Built with the feature
+//! `port` only; SEED, STREAMS and CALLS give another run.
 //!
 //! A call costs as much as its book is large, and a stream's books grow. So most calls are made in short streams, and one long
 //! stream fills a book to the ceiling.
@@ -73,6 +74,12 @@ fn fills_a_book(tally: &Tally) {
     assert!(tally.most_grown > CEILING - 100, "messages fill a book");
 }
 
+/// Runs of a hundred messages and more were replayed.
+fn replays_long_runs(tally: &Tally) {
+    let long = tally.cases.times("replay", "long run");
+    assert!(long > 0, "no long run was replayed");
+}
+
 #[test]
 fn short_streams_agree() {
     let (seed, streams) = (setting("SEED", 51), setting("STREAMS", 225));
@@ -94,4 +101,5 @@ fn a_long_stream_agrees() {
     println!("seed {seed}: {tally:?}");
     applies_messages(&tally);
     fills_a_book(&tally);
+    replays_long_runs(&tally);
 }

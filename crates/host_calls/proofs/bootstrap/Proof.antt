@@ -1,29 +1,26 @@
-use mathlib.Core.Path.{ap}
 use lib.ListN.{length}
-use denote.Ref.{now}
 use borrow.Author.Tests.{lt-ltb, le-ltb}
 use borrow.Author.Needs.{needs}
-use Rattle.host_calls.specs.Calls.{bootstrapCall, afterBootstrap}
+use Rattle.host_calls.specs.Calls.{bootstrapCall}
+use Rattle.host_calls.proofs.Works.{boot-leaves}
 use Rattle.host_calls.proofs.bootstrap.Statement.{statement}
 use Rattle.host_calls.proofs.bootstrap.Tie as tie
 
 returns : tie.Need-returns
 unfolding bootstrapCall
-returns c =
-    let k-args = c .before .before .before .before .before in
-    rw (lt-ltb (length (now (k-args .args .state))) 27 (c .if1 .taken))
+returns c = rw (lt-ltb (length (c .before .before .before .before .before .args .state .now)) 27 (c .if1 .taken))
+
+store-book-requires : tie.Need-store-book-requires
+store-book-requires c κs = c .before .before .before .before .before .before .before .before .before .before .before .before .before .before .before .before .before .before .if1 .left
 
 returns-2 : tie.Need-returns-2
 unfolding bootstrapCall
 returns-2 c =
-    let k-store-book = c .before .before in
-    let k-number = k-store-book .before .before in
-    let k-bootstrap = k-number .before .before .before .before .before .before in
-    let k-load-book = k-bootstrap .before .before .before in
-    let k-if1 = k-load-book .before .before in
-    let k-args = k-if1 .before .before .before .before .before in
-    rw (le-ltb (length (now (k-args .args .state))) 27 (k-if1 .if1 .left), k-store-book .store-book .ensures, k-number .number .ensures, ← k-load-book .load-book .ensures)
-    (ap (afterBootstrap (now (k-args .args .state))) (k-bootstrap .bootstrap .ensures))
+    let a = c .before .before .before .before .before .before .before .before .before .before .before .before .before .before .before .before .before .before .before .before .before .before .before .before .before .before .args in
+    let k-work = c .before .before .before .before .before .before .before .before .before .before .before .before .before .before .before .bootstrap-by-value in
+    let k-book = c .before .before .before .before .before .before .before .before .before .before .before .before .before .before .before .before .before .before .before .load-book in
+    rw (le-ltb (length (a .state .now)) 27 (c .before .before .before .before .before .before .before .before .before .before .before .before .before .before .before .before .before .before .before .before .before .if1 .left), c .before .before .store-book .ensures, c .before .before .before .before .number .ensures, ← k-book .ensures)
+    (boot-leaves (a .state .now) (a .rows .now) (a .segments .now) (k-book .result) (c .before .before .before .before .before .before .before .before .before .before .before .before .before .before .before .before .before .last-record .result) (c .before .before .before .before .before .before .before .before .before .before .before .before .before .before .before .before .before .last-record .ensures) (a .bytes .now) (k-work .result) _ _ _ (k-work .ensures) (c .before .before .before .before .before .before .before .before .before .before .before .rewrite-record .ensures) (c .before .before .before .before .before .before .before .put-record .ensures))
 
 pub bootstrap-spec : {M : Type 1} → statement M
 bootstrap-spec =
@@ -34,6 +31,9 @@ bootstrap-spec =
     (λ c κs. search needs)
     (λ c κs. search needs)
     (λ c κs. search needs)
+    (λ c κs. search needs)
+    (λ c κs. search needs)
+    store-book-requires
     (λ c. search needs)
     (λ c. search needs)
     (λ c. search needs)

@@ -16,28 +16,28 @@ load-book-requires c κs =
 
 replay-few-requires : tie.Need-replay-few-requires
 replay-few-requires c κs =
-    let a = c .before .before .before .before .before .before .before .before .before .before .before .before .before .before .before .before .before .before .before .args in
-    ready (a .state .now) (a .rows .now) (a .segments .now) (a .messages .now) (a .answers .now) (c .before .before .before .before .before .before .before .before .before .before .before .before .before .if1 .left) (c .before .before .before .before .before .before .before .before .before .before .before .load-book .result) (c .before .before .before .before .before .before .before .before .before .before .before .load-book .ensures) (c .before .before .before .before .before .before .before .before .own-checks .result) (c .before .before .before .before .before .before .before .before .own-checks .ensures) (c .before .before .before .before .before .before .enum-told .given .1)
+    let a = c .before .before .before .before .before .before .before .before .before .before .before .before .before .before .before .before .before .before .args in
+    ready (a .state .now) (a .rows .now) (a .segments .now) (a .messages .now) (a .answers .now) (c .before .before .before .before .before .before .before .before .before .before .before .before .if1 .left) (c .before .before .before .before .before .before .before .before .before .before .load-book .result) (c .before .before .before .before .before .before .before .before .before .before .load-book .ensures) (c .before .before .before .before .before .before .before .before .own-checks .result) (c .before .before .before .before .before .before .before .before .own-checks .ensures) (c .before .before .before .before .before .before .enum-told .given .1)
 
 replay-many-requires : tie.Need-replay-many-requires
 replay-many-requires c κs =
-    let a = c .before .before .before .before .before .before .before .before .before .before .before .before .before .before .before .before .before .before .before .args in
-    ready (a .state .now) (a .rows .now) (a .segments .now) (a .messages .now) (a .answers .now) (c .before .before .before .before .before .before .before .before .before .before .before .before .before .if1 .left) (c .before .before .before .before .before .before .before .before .before .before .before .load-book .result) (c .before .before .before .before .before .before .before .before .before .before .before .load-book .ensures) (c .before .before .before .before .before .before .before .before .own-checks .result) (c .before .before .before .before .before .before .before .before .own-checks .ensures) (c .before .before .before .before .before .before .enum-told .given .1)
+    let a = c .before .before .before .before .before .before .before .before .before .before .before .before .before .before .before .before .before .before .args in
+    ready (a .state .now) (a .rows .now) (a .segments .now) (a .messages .now) (a .answers .now) (c .before .before .before .before .before .before .before .before .before .before .before .before .if1 .left) (c .before .before .before .before .before .before .before .before .before .before .load-book .result) (c .before .before .before .before .before .before .before .before .before .before .load-book .ensures) (c .before .before .before .before .before .before .before .before .own-checks .result) (c .before .before .before .before .before .before .before .before .own-checks .ensures) (c .before .before .before .before .before .before .enum-told .given .1)
 
 returns-2 : tie.Need-returns-2
 returns-2 c =
-    let a = c .before .before .before .before .before .before .before .before .before .before .before .before .before .before .before .args in
-    run-refused (a .state .now) (a .rows .now) (a .segments .now) (a .messages .now) (a .answers .now) (c .before .before .before .before .before .before .before .before .before .if1 .left) (c .before .before .before .before .before .before .before .load-book .result) (c .before .before .before .before .before .before .before .load-book .ensures) (c .before .before .before .before .own-checks .result) (c .before .before .before .before .own-checks .ensures) _ (c .before .before .why .given .1) _ (c .number .ensures)
+    let a = c .before .before .before .before .before .before .before .before .before .before .before .before .before .before .args in
+    run-refused (a .state .now) (a .rows .now) (a .segments .now) (a .messages .now) (a .answers .now) (c .before .before .before .before .before .before .before .before .if1 .left) (c .before .before .before .before .before .before .load-book .result) (c .before .before .before .before .before .before .load-book .ensures) (c .before .before .before .before .own-checks .result) (c .before .before .before .before .own-checks .ensures) _ (c .before .before .why .given .1) _ (c .number .ensures)
 
 returns-3 : tie.Need-returns-3
 returns-3 c =
-    let a = c .before .before .before .before .before .before .before .before .before .before .before .before .before .before .before .before .before .before .before .before .before .before .before .before .before .before .before .before .args in
-    run-passed (a .state .now) (a .rows .now) (a .segments .now) (a .messages .now) (a .answers .now) (c .before .before .before .before .before .before .before .before .before .before .before .before .before .before .before .before .before .before .before .before .before .before .if1 .left) (c .before .before .before .before .before .before .before .before .before .before .before .before .before .before .before .before .before .before .before .before .load-book .result) (c .before .before .before .before .before .before .before .before .before .before .before .before .before .before .before .before .before .before .before .before .load-book .ensures) (c .before .before .before .before .before .before .before .before .before .before .before .before .before .before .before .before .before .own-checks .result) (c .before .before .before .before .before .before .before .before .before .before .before .before .before .before .before .before .before .own-checks .ensures) _ (c .before .before .before .before .before .before .before .before .before .before .before .before .before .before .before .enum-told .given .1) (c .before .before .before .before .before .before .before .before .replay-few .ensures)
+    let a = c .before .before .before .before .before .before .before .before .before .before .before .before .before .before .before .before .before .before .before .before .before .before .before .before .before .before .before .args in
+    run-passed (a .state .now) (a .rows .now) (a .segments .now) (a .messages .now) (a .answers .now) (c .before .before .before .before .before .before .before .before .before .before .before .before .before .before .before .before .before .before .before .before .before .if1 .left) (c .before .before .before .before .before .before .before .before .before .before .before .before .before .before .before .before .before .before .before .load-book .result) (c .before .before .before .before .before .before .before .before .before .before .before .before .before .before .before .before .before .before .before .load-book .ensures) (c .before .before .before .before .before .before .before .before .before .before .before .before .before .before .before .before .before .own-checks .result) (c .before .before .before .before .before .before .before .before .before .before .before .before .before .before .before .before .before .own-checks .ensures) _ (c .before .before .before .before .before .before .before .before .before .before .before .before .before .before .before .enum-told .given .1) (c .before .before .before .before .before .before .before .before .replay-few .ensures)
 
 returns-4 : tie.Need-returns-4
 returns-4 c =
-    let a = c .before .before .before .before .before .before .before .before .before .before .before .before .before .before .before .before .before .before .before .before .before .before .before .before .before .before .before .before .args in
-    run-passed (a .state .now) (a .rows .now) (a .segments .now) (a .messages .now) (a .answers .now) (c .before .before .before .before .before .before .before .before .before .before .before .before .before .before .before .before .before .before .before .before .before .before .if1 .left) (c .before .before .before .before .before .before .before .before .before .before .before .before .before .before .before .before .before .before .before .before .load-book .result) (c .before .before .before .before .before .before .before .before .before .before .before .before .before .before .before .before .before .before .before .before .load-book .ensures) (c .before .before .before .before .before .before .before .before .before .before .before .before .before .before .before .before .before .own-checks .result) (c .before .before .before .before .before .before .before .before .before .before .before .before .before .before .before .before .before .own-checks .ensures) _ (c .before .before .before .before .before .before .before .before .before .before .before .before .before .before .before .enum-told .given .1) (c .before .before .before .before .before .before .before .before .replay-many .ensures)
+    let a = c .before .before .before .before .before .before .before .before .before .before .before .before .before .before .before .before .before .before .before .before .before .before .before .before .before .before .before .args in
+    run-passed (a .state .now) (a .rows .now) (a .segments .now) (a .messages .now) (a .answers .now) (c .before .before .before .before .before .before .before .before .before .before .before .before .before .before .before .before .before .before .before .before .before .if1 .left) (c .before .before .before .before .before .before .before .before .before .before .before .before .before .before .before .before .before .before .before .load-book .result) (c .before .before .before .before .before .before .before .before .before .before .before .before .before .before .before .before .before .before .before .load-book .ensures) (c .before .before .before .before .before .before .before .before .before .before .before .before .before .before .before .before .before .own-checks .result) (c .before .before .before .before .before .before .before .before .before .before .before .before .before .before .before .before .before .own-checks .ensures) _ (c .before .before .before .before .before .before .before .before .before .before .before .before .before .before .before .enum-told .given .1) (c .before .before .before .before .before .before .before .before .replay-many .ensures)
 
 pub replay-spec : {M : Type 1} → statement M
 replay-spec =
@@ -51,7 +51,6 @@ replay-spec =
     (λ c. search needs)
     replay-few-requires
     replay-many-requires
-    (λ c. search needs)
     (λ c. search needs)
     (λ c. search needs)
     returns-2

@@ -1,6 +1,10 @@
 use native.Mathlib.Omega.{arith}
+use lib.ListN.{length}
+use Prim.Native.Nat.{_/_}
 use borrow.Author.Needs.{needs}
-use Rattle.host_replay.proofs.Runs.{lent, runs-start}
+use Rattle.book.specs.Rows.{ceiling}
+use Rattle.reconstructor_checks.proofs.Own.{rows-ready, trusted}
+use Rattle.host_replay.proofs.Runs.{runs-start}
 use Rattle.host_replay.proofs.replay_in.Statement.{statement}
 use Rattle.host_replay.proofs.replay_in.Tie as tie
 
@@ -8,13 +12,15 @@ mark-rows-requires : tie.Need-mark-rows-requires
 mark-rows-requires c κs =
     let k-start = c .before .before .before .before .before .before .before .before .before .before in
     let a = k-start .args in
-    (lent (c .before .before .load-book .result) (a .rows .now) (a .segments .now) (rw (c .before .before .load-book .ensures) (k-start .pre .0 .usable)), k-start .pre .1)
+    let b = c .before .before .load-book in
+    (rows-ready (b .result) (a .rows .now) (trusted ceiling (b .result) (a .rows .now) (length (a .segments .now) / 8) (rw (b .ensures) (k-start .pre .0 .usable))), k-start .pre .1)
 
 bounds-of-requires : tie.Need-bounds-of-requires
 bounds-of-requires c κs =
     let k-start = c .before .before .before .before .before .before .before .before .before .before .before .before .before .before in
     let a = k-start .args in
-    lent (c .before .before .before .before .before .before .load-book .result) (a .rows .now) (a .segments .now) (rw (c .before .before .before .before .before .before .load-book .ensures) (k-start .pre .0 .usable))
+    let b = c .before .before .before .before .before .before .load-book in
+    rows-ready (b .result) (a .rows .now) (trusted ceiling (b .result) (a .rows .now) (length (a .segments .now) / 8) (rw (b .ensures) (k-start .pre .0 .usable)))
 
 replay-from-requires : tie.Need-replay-from-requires
 replay-from-requires c κs =

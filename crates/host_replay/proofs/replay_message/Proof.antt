@@ -1,5 +1,9 @@
+use mathlib.Core.Path.{ap, _∙_}
 use borrow.Author.Needs.{needs}
-use Rattle.host_replay.proofs.Runs.{loaded, lent, foreseen, message-runs}
+use Rattle.reconstructor_state.specs.declared.BookReconstructor.{BookReconstructor}
+use Rattle.reconstructor_checks.proofs.Own.{rows-ready}
+use Rattle.reconstructor.proofs.Laws.{trusted-ready}
+use Rattle.host_replay.proofs.Runs.{loaded, foreseen, applies, runs-on}
 use Rattle.host_replay.proofs.replay_message.Statement.{statement}
 use Rattle.host_replay.proofs.replay_message.Tie as tie
 
@@ -9,41 +13,48 @@ foresee-requires c κs =
     let a = k-start .args in
     let b = c .before .before .load-book in
     let r = loaded (a .state .now) (a .rows .now) (a .segments .now) (a .places .now) (a .bounds) (b .result) (b .ensures) (k-start .pre .0) in
-    (lent (b .result) (a .rows .now) (a .segments .now) (r .0), r .1 .within)
+    (rows-ready (b .result) (a .rows .now) (r .0), r .1 .within)
 
 apply-indexed-requires : tie.Need-apply-indexed-requires
 apply-indexed-requires c κs =
-    let k-start = c .before .before .before .before .before .before .before .before .before .before .before .before .before in
+    let k-start = c .before .before .before .before .before .before .before .before .before .before .before .before .before .before in
     let a = k-start .args in
-    let b = c .before .before .before .before .before .before .load-book in
+    let b = c .before .before .before .before .before .before .before .load-book in
     let r = loaded (a .state .now) (a .rows .now) (a .segments .now) (a .places .now) (a .bounds) (b .result) (b .ensures) (k-start .pre .0) in
-    (r .0, foreseen _ _ _ _ (r .1) (c .before .before .before .foresee .ensures .0))
+    (trusted-ready (b .result) (a .rows .now) (r .0), foreseen _ _ _ _ (r .1) (c .before .before .before .before .foresee .ensures .0))
 
 note-requires : tie.Need-note-requires
 note-requires c κs =
-    let k-start = c .before .before .before .before .before .before .before .before .before .before .before .before .before .before .before .before .before .before .before in
+    let k-start = c .before .before .before .before .before .before .before .before .before .before .before .before .before .before .before .before .before .before .before .before .before .before in
     let a = k-start .args in
-    let b = c .before .before .before .before .before .before .before .before .before .before .before .before .load-book in
+    let b = c .before .before .before .before .before .before .before .before .before .before .before .before .before .before .before .load-book in
     let r = loaded (a .state .now) (a .rows .now) (a .segments .now) (a .places .now) (a .bounds) (b .result) (b .ensures) (k-start .pre .0) in
-    (r .1 .few, lent (b .result) (a .rows .now) (a .segments .now) (r .0) .few)
+    (r .1 .few, rows-ready (b .result) (a .rows .now) (r .0) .few)
 
 store-book-requires : tie.Need-store-book-requires
-store-book-requires c κs = c .before .before .before .before .before .before .before .before .before .before .before .before .before .before .before .before .before .before .before .before .before .before .before .before .pre .0 .whole
+store-book-requires c κs = c .before .before .before .before .before .before .before .before .before .before .before .before .before .before .before .before .before .before .before .before .before .before .before .before .before .before .before .pre .0 .whole
 
 returns : tie.Need-returns
 returns c =
-    let k-store-book = c .before .before .before in
-    let k-apply = c .before .before .before .before .before .before .before .before .before .before .before .before .before .before in
-    let k-foresee = c .before .before .before .before .before .before .before .before .before .before .before .before .before .before .before .before .before .before in
-    let k-load-message = c .before .before .before .before .before .before .before .before .before .before .before .before .before .before .before .before .before .before .before .before in
-    let k-start = c .before .before .before .before .before .before .before .before .before .before .before .before .before .before .before .before .before .before .before .before .before .before .before .before .before .before .before .before in
+    let k-start = c .before .before .before .before .before .before .before .before .before .before .before .before .before .before .before .before .before .before .before .before .before .before .before .before .before .before .before .before .before .before .before in
     let a = k-start .args in
-    let b = c .before .before .before .before .before .before .before .before .before .before .before .before .before .before .before .before .before .before .before .before .before .load-book in
+    let b = c .before .before .before .before .before .before .before .before .before .before .before .before .before .before .before .before .before .before .before .before .before .before .before .before .load-book in
+    let m = c .before .before .before .before .before .before .before .before .before .before .before .before .before .before .before .before .before .before .before .before .before .before .before .load-message in
+    let w = c .before .before .before .before .before .before .before .before .before .before .before .before .before .before .before .before .apply-indexed in
     let runs = k-start .pre .0 in
-    let r = loaded (a .state .now) (a .rows .now) (a .segments .now) (a .places .now) (a .bounds) (b .result) (b .ensures) runs in
-    message-runs (a .state .now) (a .rows .now) (a .segments .now) (a .message .now) (a .places .now) (b .result .rows) _ (b .result) (k-load-message .load-message .result) (k-apply .apply-indexed .result) _ _ _ _ _ _
-    (b .ensures) (k-load-message .load-message .ensures) (k-apply .apply-indexed .ensures) (c .before .before .before .before .before .before .before .before .note .ensures) (c .before .before .before .before .sets-status .ensures) (k-store-book .store-book .ensures) (c .apply-number .ensures)
-    (runs .whole) (k-start .pre .1) (k-store-book .store-book .kept .0) (c .before .before .before .before .before .before .before .before .note .kept .0) (r .0) (foreseen _ _ _ _ (r .1) (k-foresee .foresee .ensures .0)) (k-foresee .foresee .ensures .1)
+    let st = a .state .now in
+    let ws = a .rows .now in
+    let sg = a .segments .now in
+    let at = rw (b .ensures) at (c .before .before .before .before .before .before .before .before .before .before .before .before .before .before .before .before .before .before .before .last-record .ensures) in
+    let e = rw (b .ensures, m .ensures) at (w .ensures) in
+    let eg = rw (b .ensures) at (c .before .before .before .before .before .before .before .before .before .before .before .before .rewrite-record .ensures) in
+    let eu = rw (c .before .before .before .before .sets-status .ensures) at (c .before .before .before .store-book .ensures) in
+    let en = rw (m .ensures) at (c .before .before .before .before .before .before .before .before .note .ensures) in
+    let f = rw (m .ensures) at (c .before .before .before .before .before .before .before .before .before .before .before .before .before .before .before .before .before .before .before .before .before .foresee .ensures .1) in
+    let i = rw (b .ensures) at (foreseen _ _ _ _ (loaded st ws sg (a .places .now) (a .bounds) (b .result) (b .ensures) runs .1) (c .before .before .before .before .before .before .before .before .before .before .before .before .before .before .before .before .before .before .before .before .before .foresee .ensures .0)) in (
+      rw (c .apply-number .ensures) (applies st ws sg (a .message .now) (a .places .now) (b .result .rows) (c .before .before .before .before .before .before .before .before .before .before .before .before .before .before .before .before .before .before .before .before .before .foresee .result) (w .result) _ _ _ _ _ at e eg eu en (runs .whole) (runs .usable) (k-start .pre .1)),
+      runs-on st ws sg (a .message .now) (a .places .now) (b .result .rows) (c .before .before .before .before .before .before .before .before .before .before .before .before .before .before .before .before .before .before .before .before .before .foresee .result) (w .result) _ _ _ _ _ at e eg eu en (runs .whole) (runs .usable) (c .before .before .before .store-book .kept .0) (c .before .before .before .before .before .before .before .before .before .before .before .before .rewrite-record .kept .0) (c .before .before .before .before .before .before .before .before .note .kept .0) i f,
+    )
 
 pub replay-message-spec : {M : Type 1} → statement M
 replay-message-spec =
@@ -52,7 +63,9 @@ replay-message-spec =
     (λ c κs. search needs)
     (λ c κs. search needs)
     foresee-requires
+    (λ c κs. search needs)
     apply-indexed-requires
+    (λ c κs. search needs)
     note-requires
     (λ c κs. search needs)
     store-book-requires

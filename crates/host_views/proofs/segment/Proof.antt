@@ -1,7 +1,10 @@
-use mathlib.Core.Path.{_∙_, ap}
+use mathlib.Core.Path.{_∙_, sym, ap, ap₂}
 use Rattle.host_views.specs.Views.{segmentCall}
 use Rattle.host_reads.specs.Answers.{segmentAnswered}
+use Rattle.host_records.specs.Records.{recordsOf}
+use Rattle.host_records.proofs.Records.{length-records}
 use Rattle.host_words.proofs.Lent.{lent-two}
+use Rattle.reconstructor_view.specs.View.{segmentReadTo}
 use borrow.Author.Needs.{needs}
 use Rattle.host_views.proofs.segment.Statement.{statement}
 use Rattle.host_views.proofs.segment.Tie as tie
@@ -12,23 +15,22 @@ returns c = rw (c .if1 .taken)
 
 load-book-requires : tie.Need-load-book-requires
 load-book-requires c κs =
-    let k-args = c .before .before .before .before .before in
-    lent-two (k-args .args .state .now) 27 (k-args .args .out .now) 10 (c .before .if1 .left) .0
+    let a = c .before .before .before .before .args in
+    lent-two (a .state .now) 27 (a .out .now) 10 (c .if1 .left) .0
 
 store-segment-requires : tie.Need-store-segment-requires
 store-segment-requires c κs =
-    let k-if1 = c .before .before .before in
-    let k-args = k-if1 .before .before .before .before in
-    lent-two (k-args .args .state .now) 27 (k-args .args .out .now) 10 (k-if1 .if1 .left) .1
+    let a = c .before .before .before .before .before .before .before .before .args in
+    lent-two (a .state .now) 27 (a .out .now) 10 (c .before .before .before .before .if1 .left) .1
 
 returns-2 : tie.Need-returns-2
 unfolding segmentCall
 returns-2 c =
-    let k-segment = c .before .before .before in
-    let k-load-book = k-segment .before in
-    let k-if1 = k-load-book .before .before in
-    let k-args = k-if1 .before .before .before .before in
-    rw (k-if1 .if1 .left, ← k-load-book .load-book .ensures) (c .before .before .store-segment .ensures ∙ ap (λ a. segmentAnswered a (k-args .args .out .now)) (k-segment .segment .ensures))
+    let a = c .before .before .before .before .before .before .before .before .before .before .before .args in
+    rw (c .before .before .before .before .before .before .before .if1 .left, ← c .before .before .before .before .before .before .load-book .ensures)
+    (c .before .before .store-segment .ensures
+    ∙ ap (λ x. segmentAnswered x (a .out .now))
+    (c .before .before .before .before .segment-by-value .ensures ∙ ap₂ (λ n g. segmentReadTo (c .before .before .before .before .before .before .load-book .result) n (a .place) g) (sym (length-records (a .segments .now))) (c .before .before .before .before .before .record-at .ensures)))
 
 pub segment-spec : {M : Type 1} → statement M
 segment-spec =
@@ -36,6 +38,7 @@ segment-spec =
     (tie.spec
     returns
     load-book-requires
+    (λ c κs. search needs)
     (λ c κs. search needs)
     store-segment-requires
     (λ c. search needs)

@@ -14,7 +14,7 @@ returns c = says (fails _ _ _ (told-true (c .before .over-ceiling .ensures) (c .
 
 mul-if2 : tie.Need-mul-if2
 mul-if2 c =
-    let k-start = c .before .before .before .before .before .before in
+    let k-start = c .before .before .before .before .before in
     let m = orders-within ceiling (k-start .args .book .rules) (sym (c .before .before .over-ceiling .ensures) ∙ c .before .if1 .left) in
     omega arith
 
@@ -29,9 +29,9 @@ broken-requires : tie.Need-broken-requires
 broken-requires c κs =
     let k-if1 = c .before .before .before in
     let k-over-ceiling = k-if1 .before in
-    let k-start = k-over-ceiling .before .before .before .before in
+    let k-start = k-over-ceiling .before .before .before in
     let m = orders-within ceiling (k-start .args .book .rules) (sym (k-over-ceiling .over-ceiling .ensures) ∙ k-if1 .if1 .left) in
-    let l = rows-lent (k-start .args .book) (k-start .args .rows .now) (k-start .args .segments .now) (c .if2 .left) in
+    let l = rows-lent (k-start .args .book) (k-start .args .rows .now) (k-start .args .lent) (c .if2 .left) in
     (omega arith, omega arith)
 
 returns-3 : tie.Need-returns-3

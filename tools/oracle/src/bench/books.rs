@@ -2,8 +2,9 @@
 
 use crate::call::{Rules, SizeDecrease};
 use crate::generate::random::Random;
+use crate::l3::message::L3Snapshot;
 use crate::l3::reconstructor::BookReconstructor;
-use crate::piece::{Snapshot, SnapshotOrder};
+use crate::piece::{Snapshot, SnapshotOrder, encode_snapshot};
 use crate::port;
 use crate::rust::convert;
 
@@ -35,6 +36,17 @@ impl Ours {
         }
     }
 
+    /// With this one, which is sound.
+    pub fn loaded(snapshot: &Snapshot) -> Ours {
+        let mut book = Ours::fresh();
+        assert_eq!(book.bootstrap(&encode_snapshot(snapshot)), 0);
+        book
+    }
+
+    pub fn orders(&self) -> usize {
+        self.block[port::STATE_ROWS] as usize
+    }
+
     pub fn bootstrap(&mut self, piece: &[u8]) -> u64 {
         port::bootstrap(&mut self.block, &mut self.rows, &mut self.segments, piece)
     }
@@ -58,15 +70,22 @@ pub fn theirs() -> BookReconstructor {
     BookReconstructor::new(convert::product_text(&PRODUCT), convert::rules(&RULES))
 }
 
-/// Bids and asks, half of the orders each (there is an even number of them), in random order under random ids, evenly spread over
-/// `prices` prices a side. Bids stand at 1 and above, asks at 1,000,001 and above.
-pub fn snapshot(orders: usize, prices: usize) -> Snapshot {
+/// The Rust's book, with this one, which is sound.
+pub fn loaded(snapshot: &L3Snapshot) -> BookReconstructor {
+    let mut book = theirs();
+    book.bootstrap(snapshot).expect("the snapshot is sound");
+    book
+}
+
+/// Bids and asks, half of the orders each (there is an even number of them), in random order under random ids, each at a price of its own:
+/// bids at 1 and above, asks at 1,000,001 and above.
+pub fn spread(orders: usize) -> Snapshot {
     let mut random = Random::new(7);
     let mut side = |base: i64| {
         let mut all: Vec<SnapshotOrder> = (0..orders / 2)
             .map(|place| SnapshotOrder {
                 id: u128::from(random.word()) << 64 | u128::from(random.word()),
-                price: base + (place % prices) as i64,
+                price: base + place as i64,
                 size: SIZE,
             })
             .collect();
@@ -81,10 +100,4 @@ pub fn snapshot(orders: usize, prices: usize) -> Snapshot {
         bids: side(1),
         asks: side(1_000_001),
     }
-}
-
-/// Prices a side: so many that there are about sqrt(`orders`) levels in all, and so many that each order has a level of its own.
-pub fn prices(orders: usize) -> [usize; 2] {
-    let few = (orders as f64).sqrt() / 2.0;
-    [few.ceil() as usize, orders / 2]
 }

@@ -3,7 +3,7 @@
 use std::collections::{HashMap, HashSet};
 use std::hint::black_box;
 
-use super::{SIZES, best, books};
+use super::{best, books};
 use crate::generate::random::Random;
 use crate::l3::reconstructor::BookReconstructor;
 use crate::piece::{Snapshot, SnapshotOrder};
@@ -11,6 +11,8 @@ use crate::port;
 use crate::rows::sound;
 use crate::rust::convert;
 
+/// Resting orders.
+const SIZES: [usize; 4] = [10, 100, 512, 4_096];
 const WORDS: usize = 8;
 const LIMIT: u64 = 1_000_000_000_000_000;
 
@@ -48,7 +50,6 @@ fn theirs(words: &[u64]) -> BookReconstructor {
         let rows = words.chunks_exact(WORDS);
         rows.filter(|r| r[4] % 2 == kind).map(order).collect()
     };
-    let mut book = books::theirs();
     let (bids, asks) = (side(0), side(1));
     let snapshot = Snapshot {
         product: books::PRODUCT,
@@ -56,9 +57,7 @@ fn theirs(words: &[u64]) -> BookReconstructor {
         bids,
         asks,
     };
-    book.bootstrap(&convert::snapshot(&snapshot))
-        .expect("sound rows are a snapshot");
-    book
+    books::loaded(&convert::snapshot(&snapshot))
 }
 
 /// Ids that all fall into one bucket of the port's tables: the halves of their words have one sum.

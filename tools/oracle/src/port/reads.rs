@@ -58,7 +58,7 @@ pub fn level_queue(
 }
 
 /// A level read of a side: state, rows, scratch, side, entries, their count.
-type LevelRead = fn(&[u64], &[u64], &mut [u64], u64, &mut [u64], &mut [u64]) -> u64;
+pub type LevelRead = fn(&[u64], &[u64], &mut [u64], u64, &mut [u64], &mut [u64]) -> u64;
 
 fn level_read(
     read: LevelRead,

@@ -17,6 +17,7 @@ pub const GUARD: u64 = 0xA5A5_5A5A_DEAD_BEEF;
 /// A state's words, and guards.
 pub type Block = [u64; port::BLOCK_WORDS + GUARDS];
 
+#[derive(Clone)]
 pub struct Book {
     pub block: Block,
     rows: Vec<u64>,
@@ -200,11 +201,16 @@ impl Book {
         state: usize,
         function: impl FnOnce(&mut [u64], &mut [u64], &mut [u64]) -> u64,
     ) {
-        let before = (self.block, self.rows.clone(), self.segments.clone());
+        let before = self.clone();
         assert_eq!(self.lend(lent, state, function), 7, "a slice is short");
-        assert!(before.0 == self.block, "a short slice leaves the block");
-        assert!(before.1 == self.rows, "a short slice leaves the rows");
-        assert!(before.2 == self.segments, "a short slice leaves the list");
+        self.check_same(&before, "a short slice");
+    }
+
+    /// Sees that every word is the other's.
+    pub fn check_same(&self, other: &Book, what: &str) {
+        assert_eq!(self.block, other.block, "the block after {what}");
+        assert!(self.rows == other.rows, "the rows after {what}");
+        assert!(self.segments == other.segments, "the list after {what}");
     }
 
     /// Sees that a call left the block as it was, but for its effect. Which rows, segments and counts a status comes with is the model's to say.

@@ -18,6 +18,10 @@ impl Cases {
         *self.0.entry((read, case)).or_default() += 1;
     }
 
+    pub fn times(&self, call: &'static str, case: &'static str) -> u64 {
+        self.0.get(&(call, case)).copied().unwrap_or(0)
+    }
+
     pub fn merge(&mut self, other: &Cases) {
         for (&case, &times) in &other.0 {
             *self.0.entry(case).or_default() += times;
@@ -44,6 +48,7 @@ pub const EXPECTED: &[(&str, &[&str])] = &[
         &["state short", "handshake short", "no segment"],
     ),
     ("step", STEP),
+    ("replay", REPLAY),
     ("last_sequence", &["state short", "fixed output short"]),
     ("best", &["state short", "fixed output short"]),
     ("audit", &["state short"]),
@@ -92,6 +97,26 @@ const STEP: &[&str] = &[
     "10 passes by",
     "16 ends it",
     "17 ends it",
+];
+
+const REPLAY: &[&str] = &[
+    "state short",
+    "answers short",
+    "run",
+    "run told 1",
+    "run told 2",
+    "run told 3",
+    "run of no message",
+    "run of no message refused",
+    "goes on after 16",
+    "run on a large book",
+    "message changes the book",
+    "message without effect",
+    "message told 5",
+    "message told 10",
+    "message told 15",
+    "message told 16",
+    "message told 17",
 ];
 
 /// The calls that must come between two steps of a handshake on one book, neither of them 9.

@@ -214,6 +214,7 @@ impl Ported {
             self.step_short(call, held, &words)?;
         }
         let before = Before::of(self.books.get(&call.book)?, held);
+        self.begin_run(call)?;
         let room = WORDS + self.random.below(GUARDS as u64 + 1) as usize;
         let answer = self.lend(Export::Step, call, |state, rows, segments| {
             let kept = held.words;
@@ -224,6 +225,9 @@ impl Ported {
             answer
         })?;
         held.check(&before.words, answer);
+        if !matches!(answer, 9 | port::DROPPED) {
+            self.note_message(call, &words, answer)?;
+        }
         if let Some(case) = before.case(answer) {
             self.cases.add("step", case);
         }

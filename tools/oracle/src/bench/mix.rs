@@ -1,21 +1,17 @@
-//! Nanoseconds a message at the venue's mix: the port's `apply` and its replay of a run of messages, the Rust's `apply`, and that followed by `audit()`, on the
-//! same messages.
+//! Messages as the venue mixes them: 33 % opens, 20 % partial and 13 % full matches, 20 % cancels, 13 % changes.
 
-use std::hint::black_box;
-use std::time::Instant;
-
-use super::ROUNDS;
-use super::books::{self, Ours, PRODUCT, SIZE};
+use super::books::{PRODUCT, SIZE};
 use crate::generate::random::Random;
-use crate::l3::message::L3Message;
-use crate::piece::{
-    ChangeReason, DoneReason, Event, Id, Message, Side, Snapshot, SnapshotOrder, encode_snapshot,
-};
-use crate::reader::message_words;
-use crate::rust::convert;
+use crate::piece::{ChangeReason, DoneReason, Event, Id, Message, Side, Snapshot, SnapshotOrder};
 
 /// The messages of a run: 66 cycles.
 pub const MESSAGES: usize = 990;
+
+/// A snapshot, and a run of messages on it.
+pub struct Mix {
+    pub snapshot: Snapshot,
+    pub messages: Vec<Message>,
+}
 
 #[derive(Clone, Copy)]
 struct Resting {
@@ -145,88 +141,20 @@ fn event(random: &mut Random, resting: &mut Vec<Resting>, kind: Kind) -> Event {
     }
 }
 
-/// A snapshot of so many orders, and a run of messages on it.
-pub fn venue(size: usize) -> (Snapshot, Vec<Message>) {
-    let mut random = Random::new(7);
-    let mut resting: Vec<Resting> = (0..size).map(|_| order(&mut random)).collect();
-    let snapshot = snapshot(&resting);
-    let kinds = CYCLE.into_iter().cycle().take(MESSAGES);
-    let message = |(place, kind)| Message {
-        product: PRODUCT,
-        sequence: place,
-        time_us: place,
-        event: event(&mut random, &mut resting, kind),
-    };
-    let messages = (1..).zip(kinds).map(message).collect();
-    (snapshot, messages)
-}
-
-/// The best round's nanoseconds a message; `fresh` makes the book of a round, outside the measured time.
-fn best<B>(fresh: impl Fn() -> B, mut work: impl FnMut(&mut B)) -> f64 {
-    let round = |_| {
-        let mut book = fresh();
-        let start = Instant::now();
-        work(black_box(&mut book));
-        start.elapsed().as_nanos() as f64 / MESSAGES as f64
-    };
-    (0..ROUNDS).map(round).fold(f64::INFINITY, f64::min)
-}
-
-fn loaded(snapshot: &Snapshot) -> Ours {
-    let mut book = Ours::fresh();
-    assert_eq!(book.bootstrap(&encode_snapshot(snapshot)), 0);
-    book
-}
-
-fn applied(snapshot: &Snapshot, messages: &[Message]) -> f64 {
-    let words: Vec<Vec<u64>> = messages.iter().map(message_words).collect();
-    best(
-        || loaded(snapshot),
-        |book| {
-            for message in &words {
-                assert_eq!(book.apply(message), 256);
-            }
-        },
-    )
-}
-
-fn replayed(snapshot: &Snapshot, messages: &[Message]) -> f64 {
-    let words: Vec<u64> = messages.iter().flat_map(message_words).collect();
-    let mut answers = vec![0; messages.len()];
-    best(
-        || loaded(snapshot),
-        |book| {
-            assert_eq!(book.replay(&words, &mut answers), 0);
-            assert!(answers.iter().all(|&answer| answer == 256));
-        },
-    )
-}
-
-fn theirs(snapshot: &Snapshot, messages: &[Message], audited: bool) -> f64 {
-    let messages: Vec<L3Message> = messages.iter().map(convert::message).collect();
-    let snapshot = convert::snapshot(snapshot);
-    let fresh = || {
-        let mut book = books::theirs();
-        book.bootstrap(&snapshot).expect("the snapshot is sound");
-        book
-    };
-    best(fresh, |book| {
-        for message in &messages {
-            assert!(book.apply(message).is_ok());
-            assert!(!audited || book.audit().is_ok());
-        }
-    })
-}
-
-pub fn run() {
-    println!("|orders|replay|apply|rust|rust+audit|replay/rust|apply/(rust+audit)");
-    for size in [10, 100, 512, 1_000, 4_096] {
-        let (snapshot, messages) = venue(size);
-        let (a, r) = (applied(&snapshot, &messages), replayed(&snapshot, &messages));
-        let (t, u) = (
-            theirs(&snapshot, &messages, false),
-            theirs(&snapshot, &messages, true),
-        );
-        println!("|{size}|{r:.0}|{a:.0}|{t:.0}|{u:.0}|{:.2}|{:.2}|", r / t, a / u);
+impl Mix {
+    /// The book has so many orders before the run and after it.
+    pub fn new(orders: usize) -> Mix {
+        let mut random = Random::new(7);
+        let mut resting: Vec<Resting> = (0..orders).map(|_| order(&mut random)).collect();
+        let snapshot = snapshot(&resting);
+        let kinds = CYCLE.into_iter().cycle().take(MESSAGES);
+        let message = |(place, kind)| Message {
+            product: PRODUCT,
+            sequence: place,
+            time_us: place,
+            event: event(&mut random, &mut resting, kind),
+        };
+        let messages = (1..).zip(kinds).map(message).collect();
+        Mix { snapshot, messages }
     }
 }
