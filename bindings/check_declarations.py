@@ -97,8 +97,8 @@ def defined(prefix, file, function, index):
 
 def definitions():
     words = defined("STATE", "crates/host_words/specs/Block.antt", "countsOf", r"«?(\w+)»? = getD ws (\d+) 0")
-    segments = "crates/reconstructor_segments/specs/Segments.antt"
-    return words | defined("SEGMENT", segments, "segmentAt", r"«?(\w+)»? = getD ws \(8 \* i(?: \+ (\d+))?\) 0")
+    records = "crates/host_records/specs/Records.antt"
+    return words | defined("SEGMENT", records, "recordAt", r"«?(\w+)»? = getD ws \(8 \* i(?: \+ (\d+))?\) 0")
 
 
 def differences(what, one, other):

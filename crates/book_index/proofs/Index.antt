@@ -9,8 +9,8 @@ use native.Mathlib.Numerals.{add-one}
 use native.Mathlib.Omega.{arith}
 use lib.Dec.{eqb, leb, ltb}
 use lib.ListN.{length, getD, set, length-set}
-use lib.Seq.{getD-set-same, getD-set-other}
-use borrow.Author.Tests.{ltb-true, ltb-false, leb-true, eqb-true, eqb-false, lt-ltb, le-leb, lt-leb, le-ltb, ne-eqb}
+use lib.Seq.{getD-set-same}
+use borrow.Author.Tests.{ltb-true, ltb-false, leb-true, eqb-true, eqb-false, lt-ltb, le-leb, lt-leb, ne-eqb}
 use Rattle.laws.proofs.Bools.{absurd-bool, and-yes, or-no, or-both, or-true}
 use Rattle.message.specs.declared.L3Side.{L3Side}
 use Rattle.message.specs.declared.L3Side.the-variants.{Buy, Sell}
@@ -22,7 +22,7 @@ use Rattle.book.specs.declared.Decrease.{Decrease}
 use Rattle.book.specs.declared.Decrease.the-variants.{Unmarked, Marked}
 use Rattle.book.specs.declared.Found.the-variants.{At, Nothing}
 use Rattle.book.specs.declared.Resting.{Resting}
-use Rattle.book.specs.Line.{Entry, find, rests, better, best, meet, wouldCross}
+use Rattle.book.specs.Line.{rests, better, best, meet, wouldCross}
 use Rattle.book.specs.Rows.{emptyRow, rowAt, rowsFrom, rowsOf, idOf, entryOf, lineOf, sideOf, findRow, reduced, cutRows}
 use Rattle.book.specs.Broken.{idTwice}
 use Rattle.book.proofs.Rows.{rows-around, rows-done, length-rows, getD-rows}

@@ -22,12 +22,12 @@ use Rattle.reconstructor_state.specs.State.{viewOf, lengthsOf, segmentOf}
 use Rattle.reconstructor_checks.specs.Own.{stateRefusal, broken}
 use Rattle.reconstructor.specs.Applied.{applied}
 use Rattle.reconstructor_handshake.specs.declared.StepAnswer.{StepAnswer}
-use Rattle.reconstructor_handshake.specs.declared.StepAnswer.the-variants.{Stepped, Dropped, OtherSegment}
-use Rattle.reconstructor_handshake.specs.Step.{otherSegment, drops, with, after, unchanged, decided, dropped, stepRefusal, settledStep, stepped, StepParts}
+use Rattle.reconstructor_handshake.specs.declared.StepAnswer.the-variants.{Stepped, OtherSegment}
+use Rattle.reconstructor_handshake.specs.Step.{otherSegment, drops, with, after, decided, dropped, stepRefusal, settledStep, stepped, StepParts}
 use Rattle.host_records.specs.Records.{recordsOf, relaid}
 use Rattle.host_words.specs.Block.{bookOf, messageOf, restored, applyNumber}
 use Rattle.host_handshake.specs.Steps.{handshakeOf, handshakeLeft, stepSets}
-use Rattle.host_calls.specs.Calls.{Call, afterApply, StepCall, stepCalled, afterStep, stepCall}
+use Rattle.host_calls.specs.Calls.{Call, StepCall, stepCalled, afterStep, stepCall}
 use Rattle.laws.proofs.Bools.{absurd-bool, or-no}
 use Rattle.host_records.proofs.Records.{relaid-same}
 use Rattle.host_words.proofs.Blocks.{block-same, raised, raised-dropped}

@@ -4,7 +4,7 @@ use Prim.Native.Nat.{ℕ, zero, suc, _+_, _*_, _-_, _/_, _≤_, _<_, max}
 use mathlib.Core.Path.{_≡_, refl, sym, ap, _∙_}
 use mathlib.Core.List.{List, [], _∷_, _++_, map}
 use native.Mathlib.Omega.{arith}
-use lib.ListN.{length, getD, set, drop, length-set, length-map, List·getD-eq-default, List·getD-map}
+use lib.ListN.{length, set, drop, length-set, length-map, List·getD-eq-default, List·getD-map}
 use lib.Seq.{set-out, drop-at}
 use Rattle.book.specs.declared.Resting.{Resting}
 use Rattle.book.specs.Rows.{emptyRow, rowAt, rowsFrom, rowsOf, encodeAll, setRow, stored}

@@ -2,8 +2,8 @@
 -- Assumes nothing.
 use Prim.Native.Nat.{ℕ, suc, _+_, _*_, _-_, _/_, _≤_, _<_}
 use mathlib.Core.Path.{_≡_, refl, sym, subst, ap, _∙_}
-use mathlib.Core.Bool.{Bool, true, false, _||_}
-use mathlib.Core.List.{List, [], _∷_, _++_, append-assoc}
+use mathlib.Core.Bool.{true, false, _||_}
+use mathlib.Core.List.{List, _++_, append-assoc}
 use native.Mathlib.Nat.{add-zero, zero-add}
 use native.Mathlib.Numerals.{add-one}
 use native.Mathlib.Omega.{arith}
@@ -11,7 +11,6 @@ use borrow.Author.Tests.{le-ltb}
 use lib.Dec.{ltb}
 use lib.ListN.{length, set, take, drop, length-drop, length-set, take-append-drop}
 use lib.Seq.{take-all, take-suc-set, drop-set-lt, drop-drop}
-use Rattle.message.specs.declared.L3Message.{L3Message}
 use Rattle.book.specs.declared.Resting.{Resting}
 use Rattle.book.specs.Rows.{ceiling, rowsOf}
 use Rattle.book_index.specs.declared.Bounds.{Bounds}

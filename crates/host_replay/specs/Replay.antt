@@ -1,5 +1,5 @@
 -- A run of messages on a book whose state and messages are words: as many calls of `pinuglaw_apply`.
-use Prim.Native.Nat.{ℕ, zero, suc, _*_, _/_, _≤_}
+use Prim.Native.Nat.{ℕ, zero, suc, _/_, _≤_}
 use mathlib.Core.Bool.{cond, _||_}
 use mathlib.Core.List.{List, [], _∷_, _++_}
 use mathlib.Core.Option.{Option, none, some}
@@ -12,7 +12,7 @@ use Rattle.reconstructor_answers.specs.declared.StateError.{StateError}
 use Rattle.reconstructor_answers.specs.Numbers.{stateErrorNumber}
 use Rattle.reconstructor_checks.specs.Own.{bookRefusal, Usable}
 use Rattle.host_words.specs.Block.{bookOf}
-use Rattle.host_calls.specs.Calls.{Call, applyCall}
+use Rattle.host_calls.specs.Calls.{applyCall}
 
 -- the numbers of the calls, and the lent words after the last one
 pub record Run : Type 0 where

@@ -3,12 +3,11 @@
 use Prim.Native.Nat.{ℕ, _-_}
 use mathlib.Core.List.{List}
 use mathlib.Core.Option.{Option, none, some}
-use lib.ListN.{length, set}
+use lib.ListN.{set}
 use Rattle.message.specs.declared.L3Message.{L3Message}
 use Rattle.reconstructor_answers.specs.declared.ApplyAnswer.{ApplyAnswer}
 use Rattle.reconstructor_answers.specs.declared.ApplyAnswer.the-variants.{Unusable}
 use Rattle.reconstructor_segments.specs.declared.Segment.{Segment}
-use Rattle.reconstructor_segments.specs.Segments.{segmentAt}
 use Rattle.reconstructor_state.specs.declared.BookReconstructor.{BookReconstructor}
 use Rattle.reconstructor_state.specs.Checks.{first}
 use Rattle.reconstructor_state.specs.State.{lastOf}

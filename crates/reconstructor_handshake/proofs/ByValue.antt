@@ -21,7 +21,7 @@ use Rattle.reconstructor_checks.proofs.Own.{usable}
 use Rattle.reconstructor.proofs.ByValue.{applied-trusted}
 use Rattle.reconstructor_handshake.specs.declared.Handshake.{Handshake}
 use Rattle.reconstructor_handshake.specs.declared.StepAnswer.{StepAnswer}
-use Rattle.reconstructor_handshake.specs.Step.{otherSegment, drops, unchanged, decided, stepped, StepParts}
+use Rattle.reconstructor_handshake.specs.Step.{otherSegment, drops, unchanged, decided, stepped}
 use Rattle.reconstructor_handshake.specs.ByValue.{unchangedTo, settledTo, stepTo, steppedTo, relistedStep}
 use Rattle.reconstructor_handshake.proofs.Step.{unusable-step, other-step, out-of-range-step, dropped-step, decided-step}
 

@@ -1,13 +1,12 @@
 -- The rows after an accepted event are in the index that foresaw and noted it.
 -- Assumes nothing.
 use Prim.Native.Nat.{ℕ, _-_}
-use mathlib.Core.Path.{_≡_, refl, ap, _∙_}
+use mathlib.Core.Path.{_≡_, ap, _∙_}
 use mathlib.Core.Bool.{Bool, true, false, cond}
 use mathlib.Core.List.{List}
 use mathlib.Core.Option.{Option, none, some}
 use lib.Dec.{eqb}
 use Rattle.message.specs.declared.L3Side.{L3Side}
-use Rattle.message.specs.declared.OrderId.{OrderId}
 use Rattle.message.specs.declared.L3Event.{L3Event}
 use Rattle.message.specs.declared.L3Event.the-variants.{Received, Open, Done, Match, Change, Unsupported}
 use Rattle.message.specs.Amounts.{natOf}

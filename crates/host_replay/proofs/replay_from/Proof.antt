@@ -1,8 +1,7 @@
-use Prim.Native.Nat.{_-_, _*_, _<_, _^_}
-use mathlib.Core.Path.{_≡_, refl, sym, ap, _∙_}
+use Prim.Native.Nat.{_-_, _*_}
+use mathlib.Core.Path.{sym, _∙_}
 use native.Mathlib.Omega.{arith}
-use lib.ListN.{length, drop, length-drop, length-set}
-use lib.Seq.{drop-nil}
+use lib.ListN.{length-drop}
 use borrow.Author.Needs.{needs}
 use Rattle.host_replay.specs.Replay.{countOf}
 use Rattle.host_replay.proofs.Runs.{Looped, loop-start, loop-next, message-at, left-last}

@@ -1,6 +1,4 @@
-use mathlib.Core.Path.{ap, _∙_}
 use borrow.Author.Needs.{needs}
-use Rattle.reconstructor_state.specs.declared.BookReconstructor.{BookReconstructor}
 use Rattle.reconstructor_checks.proofs.Own.{rows-ready}
 use Rattle.reconstructor.proofs.Laws.{trusted-ready}
 use Rattle.host_replay.proofs.Runs.{loaded, foreseen, applies, runs-on}

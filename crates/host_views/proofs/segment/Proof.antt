@@ -1,7 +1,6 @@
 use mathlib.Core.Path.{_∙_, sym, ap, ap₂}
 use Rattle.host_views.specs.Views.{segmentCall}
 use Rattle.host_reads.specs.Answers.{segmentAnswered}
-use Rattle.host_records.specs.Records.{recordsOf}
 use Rattle.host_records.proofs.Records.{length-records}
 use Rattle.host_words.proofs.Lent.{lent-two}
 use Rattle.reconstructor_view.specs.View.{segmentReadTo}
