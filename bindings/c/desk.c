@@ -388,6 +388,30 @@ static void check_resent(struct book *b)
     SAME(step(b, handshake, match_piece(201, A, 1)), PINUGLAW_HANDSHAKE_OVER);
 }
 
+/* A run of messages in one call: what single calls answer and leave, the re-sent match and what follows it among them. */
+static void check_replay(void)
+{
+    struct book singly = new_book(), book = new_book();
+    struct piece snapshot = snapshot_of_e(100);
+    SAME(take_snapshot(&singly, &snapshot), PINUGLAW_OK);
+    SAME(take_snapshot(&book, &snapshot), PINUGLAW_OK);
+    const struct piece run[] = {open_piece(101, C, 10, 5), match_piece(102, A, 2), match_piece(102, A, 2), open_piece(103, D, 9, 1)};
+    enum { RUN = sizeof run / sizeof run[0] };
+    uint64_t messages[RUN * PINUGLAW_MESSAGE_WORDS], answers[RUN + 1] = {JUNK, JUNK, JUNK, JUNK, JUNK};
+    for (size_t i = 0; i < RUN; i++)
+        read_into(messages + i * PINUGLAW_MESSAGE_WORDS, run[i]);
+    SAME(pinuglaw_replay(LENT(book.state), LENT(book.rows), LENT(book.segments), LENT(messages), answers, RUN - 1), PINUGLAW_OUTPUT_TOO_SMALL);
+    same_words(__LINE__, "book.state", book.state, singly.state, PINUGLAW_STATE_WORDS);
+    WORDS(answers, JUNK, JUNK, JUNK, JUNK, JUNK);
+    SAME(pinuglaw_replay(LENT(book.state), LENT(book.rows), LENT(book.segments), LENT(messages), LENT(answers)), PINUGLAW_OK);
+    WORDS(answers, PINUGLAW_BOOK_CHANGED, PINUGLAW_BOOK_CHANGED, PINUGLAW_INVALIDATED, PINUGLAW_AWAITING_SNAPSHOT, JUNK);
+    for (size_t i = 0; i < RUN; i++)
+        SAME(apply(&singly, run[i]), answers[i]);
+    same_words(__LINE__, "book.state", book.state, singly.state, PINUGLAW_STATE_WORDS);
+    same_words(__LINE__, "book.rows", book.rows, singly.rows, sizeof book.rows / sizeof book.rows[0]);
+    same_words(__LINE__, "book.segments", book.segments, singly.segments, sizeof book.segments / sizeof book.segments[0]);
+}
+
 int main(void)
 {
     struct book b = new_book();
@@ -399,6 +423,7 @@ int main(void)
     check_level_reads(&b);
     check_estimates(&b);
     check_resent(&b);
+    check_replay();
     printf("C: %u checks, %u failed\n", checks, failures);
     return failures != 0;
 }
