@@ -151,11 +151,6 @@ pub no-place : (places : List ℕ) (d : OrderId) → 0 < length places → getD 
 unfolding marked
 no-place places d h e = or-both _ _ (ne-eqb (length places) 0 (λ z. omega (arith, h, z))) (rw e)
 
--- there is no place to write to
-pub set-none : (l : List ℕ) (i k : ℕ) → length l ≤ 0 → l ≡ set l i k
-set-none [] i k h = refl
-set-none (x ∷ l) i k h = absurd (omega arith)
-
 -- a place given to one id takes none away
 place-kept : (l : List ℕ) (i j k : ℕ) → 0 < getD l j 0 → 0 < getD (set l i (suc k)) j 0
 place-kept [] i j k h = h

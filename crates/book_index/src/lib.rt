@@ -64,12 +64,6 @@ impl Bounds {
 
 // ---- search
 
-fn row_of(x: u16) -> usize
-    ensures { λ r. ⌜ r ≡ x ⌝ }
-{
-    x as usize
-}
-
 // The bucket of an id, of `m`.
 fn bucket_of(id: OrderId, m: usize) -> usize
     requires { ⌜ (0 < m) × (m ≤ 65536) ⌝ }
@@ -115,7 +109,7 @@ pub fn find(rows: &[u64], n: usize, places: &[u16], bounds: Bounds, id: OrderId)
     if m == 0 {
         return book::find(rows, n, id);
     }
-    let place = row_of(places[bucket_of(id, m)]);
+    let place = book_keys::row_of(places[bucket_of(id, m)]);
     if place == 0 {
         return Found::Nothing;
     }

@@ -83,7 +83,7 @@ pub fn bucket(key: Key, m: usize) -> usize
     ((spread(key) * wide) / 4294967296) as usize
 }
 
-fn row_of(x: u16) -> usize
+pub fn row_of(x: u16) -> usize
     ensures { λ r. ⌜ r ≡ x ⌝ }
 {
     x as usize

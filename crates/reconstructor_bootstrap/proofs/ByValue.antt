@@ -1,12 +1,12 @@
 -- `bootstrapped` is the work by value with the records written: the last one back, and then the started one.
 -- Assumes nothing.
-use Prim.Native.Nat.{ℕ, zero, suc, _-_, _≤_}
+use Prim.Native.Nat.{ℕ, _-_}
 use mathlib.Core.Path.{_≡_, refl, sym, ap, _∙_}
-use mathlib.Core.List.{List, [], _∷_}
+use mathlib.Core.List.{List}
 use mathlib.Core.Option.{Option, none, some}
 use native.Mathlib.Omega.{arith}
 use lib.ListN.{length, set}
-use lib.Seq.{set-getD}
+use lib.Seq.{set-getD, set-out}
 use Rattle.piece.specs.declared.ReadSnapshot.{ReadSnapshot}
 use Rattle.piece.specs.declared.ReadSnapshot.the-variants.{Snapshot, Refused}
 use Rattle.piece.specs.Piece.{readSnapshot}
@@ -22,18 +22,12 @@ use Rattle.reconstructor_bootstrap.specs.Snapshot.{pieceAnswer, bootRefu
 use Rattle.reconstructor_bootstrap.specs.Bootstrap.{refused, closed, settled, taken, bootstrapped}
 use Rattle.reconstructor_bootstrap.specs.ByValue.{booted, refusedWork, closedTo, settledTo, takenTo, bootstrappedTo, relisted}
 
--- past a list's end nothing is written
-set-past : {A : Type 0} (l : List A) (i : ℕ) (x : A) → length l ≤ i → set l i x ≡ l
-set-past [] i x h = refl
-set-past (y ∷ l) zero x h = absurd (omega arith)
-set-past (y ∷ l) (suc i) x h = ap (λ t. y ∷ t) (set-past l i x (omega arith))
-
 module _ (b : BookReconstructor) (ws : List ℕ) (sg : List Segment) where
   abbrev last : Segment
   last = segmentAt sg (b .segments - 1)
 
   same : set (set sg (b .segments - 1) last) (length sg) noSegment ≡ sg
-  same = ap (λ l. set l (length sg) noSegment) (set-getD sg (b .segments - 1) noSegment) ∙ set-past sg (length sg) noSegment (omega arith)
+  same = ap (λ l. set l (length sg) noSegment) (set-getD sg (b .segments - 1) noSegment) ∙ set-out sg (length sg) noSegment (omega arith)
 
   refused-twin : (a : SnapshotAnswer) → refused a b ws sg ≡ relisted sg (b .segments) (booted (refusedWork a b (length sg) last) ws)
   refused-twin a = ap (λ l. refused a b ws l) (sym same)

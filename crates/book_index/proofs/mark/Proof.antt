@@ -1,6 +1,8 @@
+use mathlib.Core.Path.{sym}
+use native.Mathlib.Omega.{arith}
+use lib.Seq.{set-out}
 use borrow.Author.Needs.{needs}
 use Rattle.book_index.specs.Index.{markedAt}
-use Rattle.book_index.proofs.Index.{set-none}
 use Rattle.book_index.proofs.mark.Statement.{statement}
 use Rattle.book_index.proofs.mark.Tie as tie
 
@@ -10,7 +12,7 @@ returns c = rw (c .bucket-of .ensures .0)
 
 returns-2 : tie.Need-returns-2
 unfolding markedAt
-returns-2 c = set-none (c .before .before .args .places .now) _ _ (c .if1 .left)
+returns-2 c = sym (set-out (c .before .before .args .places .now) _ _ (omega arith))
 
 pub mark-spec : {M : Type 1} → statement M
 mark-spec =
