@@ -61,7 +61,7 @@ some-none a h = let z : _≡_ {A = ℕ} 0 1 = cc in omega (arith, z)
 
 -- ---- number 1 or 2 is said of the rules, the lengths and the number of segments alone
 
-early : (v : VenueRules) (n : Lengths) (three : Bool) (k : ℕ) → (overCeiling ceiling v || tooShort v n k) ≡ true
+pub early : (v : VenueRules) (n : Lengths) (three : Bool) (k : ℕ) → (overCeiling ceiling v || tooShort v n k) ≡ true
     → (e : StateError) × (stateRefusal ceiling v n three k ≡ some e) × (e ≡ MalformedBook → ⊥)
 unfolding stateRefusal
 early v n three k h = go (overCeiling ceiling v) refl h
@@ -70,20 +70,20 @@ early v n three k h = go (overCeiling ceiling v) refl h
     go true p q = (LimitAboveCeiling, fails _ _ _ p, λ x. let z : _≡_ {A = ℕ} 0 1 = cc in omega (arith, z))
     go false p q = (LentTooShort, goes-on _ _ _ _ p (fails _ _ _ q), λ x. let z : _≡_ {A = ℕ} 0 1 = cc in omega (arith, z))
 
-early-apply : (c : Config) (n : Lengths) (w : View) (m : L3Message) → (overCeiling ceiling (c .rules) || tooShort (c .rules) n (w .segments)) ≡ true → applyOutcome c n false w m ≡ refused
+pub early-apply : (c : Config) (n : Lengths) (w : View) (m : L3Message) → (overCeiling ceiling (c .rules) || tooShort (c .rules) n (w .segments)) ≡ true → applyOutcome c n false w m ≡ refused
 unfolding applyOutcome gateRefusal settle
 early-apply c n w m h = let e = early (c .rules) n false (w .segments) h in rw (first-fails _ _ _ _ (e .1))
 
-early-step : (c : Config) (n : Lengths) (w : View) (h : Handshake) (m : L3Message) → (overCeiling ceiling (c .rules) || tooShort (c .rules) n (w .segments)) ≡ true → stepOutcome c n false w h m ≡ refused
+pub early-step : (c : Config) (n : Lengths) (w : View) (h : Handshake) (m : L3Message) → (overCeiling ceiling (c .rules) || tooShort (c .rules) n (w .segments)) ≡ true → stepOutcome c n false w h m ≡ refused
 unfolding stepOutcome stepRefusal stepSettle
 early-step c n w h m q = let e = early (c .rules) n false (w .segments) q in rw (first-fails _ _ _ _ (e .1))
 
-early-boot : (c : Config) (n : Lengths) (w : View) (bytes : List ℕ) → (overCeiling ceiling (c .rules) || tooShort (c .rules) n (w .segments)) ≡ true
+pub early-boot : (c : Config) (n : Lengths) (w : View) (bytes : List ℕ) → (overCeiling ceiling (c .rules) || tooShort (c .rules) n (w .segments)) ≡ true
     → viewBoot (bootOutcome c n w bytes) (readSnapshot bytes) bytes w ≡ w
 unfolding bootRefusal
 early-boot c n w bytes h = let e = early (c .rules) n false (w .segments) h in rw (first-fails _ _ _ _ (e .1))
 
-early-refusal : (b : BookReconstructor) (ws : List ℕ) (sg : List Segment) (bytes : List ℕ) (e : StateError) → bookRefusal ceiling b ws (length sg) ≡ some e → refusalOf ceiling b ws sg bytes ≡ some (snapshots.Unusable e)
+pub early-refusal : (b : BookReconstructor) (ws : List ℕ) (sg : List Segment) (bytes : List ℕ) (e : StateError) → bookRefusal ceiling b ws (length sg) ≡ some e → refusalOf ceiling b ws sg bytes ≡ some (snapshots.Unusable e)
 unfolding bootRefusal
 early-refusal b ws sg bytes e h = first-fails _ _ _ _ h
 
@@ -93,7 +93,7 @@ back-length : {A : Type 0} (k : ℕ) (l a : List A) → length a ≡ length (tak
 back-length k l a h =
     length-append a (drop k l) ∙ ap (λ (x : ℕ). x + length (drop k l)) h ∙ sym (length-append (take k l) (drop k l)) ∙ ap length (take-append-drop k l)
 
-broken-rows : (b : BookReconstructor) (ws vs : List ℕ) → rowsOf ws (b .rows) ≡ rowsOf vs (b .rows) → broken b ws ≡ broken b vs
+pub broken-rows : (b : BookReconstructor) (ws vs : List ℕ) → rowsOf ws (b .rows) ≡ rowsOf vs (b .rows) → broken b ws ≡ broken b vs
 unfolding broken
 broken-rows b ws vs e = rw e
 
@@ -110,7 +110,7 @@ module _ (c : Config) (r s : ℕ) (w : World) (v : View) (f : Follows c r s w v)
   lent-segments : length sg ≡ n .segments
   lent-segments = length-take-le (n .segments) (w .segments) (omega (arith, fits .1, f .long))
 
-  lengths-are : lengthsOf ws sg ≡ n
+  pub lengths-are : lengthsOf ws sg ≡ n
   lengths-are = ap₂ (λ (x y : ℕ). record { rows = x; segments = y }) lent-rows lent-segments
 
   -- what a call left, with the memory beyond
@@ -143,7 +143,7 @@ module _ (c : Config) (r s : ℕ) (w : World) (v : View) (f : Follows c r s w v)
         rows-front ws (drop (n .rows) (w .rows)) (w .book .rows) (omega (arith, m, e, lent-rows, ltb-false (n .rows) (8 * c .rules .«max_orders») (d .0))) in
         ap (λ (x : List ℕ). rowsOf x (w .book .rows)) (sym (take-append-drop (n .rows) (w .rows))) ∙ z
 
-    same-view : seen (v .startSeq) (w .book) ws ≡ v
+    pub same-view : seen (v .startSeq) (w .book) ws ≡ v
     same-view =
         ap (λ (y : List Entry). record { status = w .book .status; startSeq = v .startSeq; segments = w .book .segments; line = y }) (ap lineOf (sym same-rows)) ∙ f .stands .view
 
@@ -154,7 +154,7 @@ module _ (c : Config) (r s : ℕ) (w : World) (v : View) (f : Follows c r s w v)
         let e : w .book .segments ≡ v .segments = ap (λ (x : View). x .segments) (f .stands .view) in
         omega (arith, e, ltb-false (n .segments) (v .segments) (d .1))
 
-    usable-now : Usable ceiling (w .book) ws (length sg)
+    pub usable-now : Usable ceiling (w .book) ws (length sg)
     usable-now =
         let k = or-no (overCeiling ceiling (c .rules)) (tooShort (c .rules) n (v .segments)) h in
         let e : w .book .rules ≡ c .rules = ap (λ (x : Config). x .rules) (f .stands .config) in
@@ -165,14 +165,14 @@ module _ (c : Config) (r s : ℕ) (w : World) (v : View) (f : Follows c r s w v)
           sound = broken-rows (w .book) ws (w .rows) (sym same-rows) ∙ f .stands .sound;
         }
 
-    starts-now : Starts (v .startSeq) (w .book) sg
+    pub starts-now : Starts (v .startSeq) (w .book) sg
     starts-now z =
         ap (λ (g : Segment). g .«start_seq») (sym (segment-front sg (drop (n .segments) (w .segments)) (w .book .segments - 1) (omega (arith, few-segments, lent-segments, z))))
         ∙ ap (λ (x : List Segment). segmentAt x (w .book .segments - 1) .«start_seq») (take-append-drop (n .segments) (w .segments))
         ∙ f .stands .start z
 
   -- lent too little: 1 or 2, and nothing moves
-  early-own : (overCeiling ceiling (c .rules) || tooShort (c .rules) n (v .segments)) ≡ true
+  pub early-own : (overCeiling ceiling (c .rules) || tooShort (c .rules) n (v .segments)) ≡ true
       → (e : StateError) × (bookRefusal ceiling (w .book) ws (length sg) ≡ some e) × (e ≡ MalformedBook → ⊥)
   early-own h =
       let e : w .book .rules ≡ c .rules = ap (λ (x : Config). x .rules) (f .stands .config) in
@@ -180,7 +180,7 @@ module _ (c : Config) (r s : ℕ) (w : World) (v : View) (f : Follows c r s w v)
       early (w .book .rules) (lengthsOf ws sg) (broken (w .book) ws) (w .book .segments)
       (ap₂ _||_ (ap (overCeiling ceiling) e) (ap₂ _||_ (ap₂ ltb lent-rows (ap (λ (x : VenueRules). 8 * x .«max_orders») e)) (ap₂ ltb lent-segments g)) ∙ h)
 
-  early-applied : (overCeiling ceiling (c .rules) || tooShort (c .rules) n (v .segments)) ≡ true → (m : L3Message)
+  pub early-applied : (overCeiling ceiling (c .rules) || tooShort (c .rules) n (v .segments)) ≡ true → (m : L3Message)
       → (applied ceiling (w .book) ws sg m .book ≡ w .book) × (applied ceiling (w .book) ws sg m .rows ≡ ws) × (applied ceiling (w .book) ws sg m .segments ≡ sg)
   early-applied h m =
       let e = early-own h in
@@ -195,7 +195,7 @@ module _ (c : Config) (r s : ℕ) (w : World) (v : View) (f : Follows c r s w v)
       go true h = let e = early-own h in e .2 (some-same (e .0) MalformedBook (sym (e .1) ∙ x))
       go false h = some-none MalformedBook (sym x ∙ usable-none ceiling (w .book) ws (length sg) (usable-now h))
 
-  apply-follows : (m : L3Message) → Follows c r s (perform w (apply n m)) (feedView c v (apply n m))
+  pub apply-follows : (m : L3Message) → Follows c r s (perform w (apply n m)) (feedView c v (apply n m))
   unfolding perform feedView
   apply-follows m = go (overCeiling ceiling (c .rules) || tooShort (c .rules) n (v .segments)) refl
     where
@@ -206,7 +206,7 @@ module _ (c : Config) (r s : ℕ) (w : World) (v : View) (f : Follows c r s w v)
           let t = rw (f .stands .config, lengths-are, same-view h) at (apply-stands (w .book) ws sg (v .startSeq) (usable-now h) (starts-now h) m) in
           kept-whole _ _ _ _ t (apply-left (w .book) ws sg (usable-now h) m)
 
-  step-follows : (h : Handshake) (m : L3Message) → Follows c r s (perform w (step n h m)) (feedView c v (step n h m))
+  pub step-follows : (h : Handshake) (m : L3Message) → Follows c r s (perform w (step n h m)) (feedView c v (step n h m))
   unfolding perform feedView
   step-follows h m = go (overCeiling ceiling (c .rules) || tooShort (c .rules) n (v .segments)) refl
     where
@@ -219,7 +219,7 @@ module _ (c : Config) (r s : ℕ) (w : World) (v : View) (f : Follows c r s w v)
           let t = rw (f .stands .config, lengths-are, same-view q) at (step-stands (w .book) ws sg (v .startSeq) (usable-now q) (starts-now q) h m) in
           kept-whole _ _ _ _ t (step-left (w .book) ws sg (usable-now q) m h)
 
-  boot-follows : (bytes : List ℕ) → Follows c r s (perform w (bootstrap n bytes)) (feedView c v (bootstrap n bytes))
+  pub boot-follows : (bytes : List ℕ) → Follows c r s (perform w (bootstrap n bytes)) (feedView c v (bootstrap n bytes))
   unfolding perform feedView
   boot-follows bytes = go (overCeiling ceiling (c .rules) || tooShort (c .rules) n (v .segments)) refl
     where

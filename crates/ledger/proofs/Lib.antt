@@ -6,5 +6,9 @@ pub mod Follow
 pub mod Replay
 pub mod Stale
 pub mod Said
+pub mod Answers
+pub mod Bound
+pub mod Sums
+pub mod Counts
 pub mod Sum
 pub mod Example

@@ -11,6 +11,7 @@ use lib.Dec.{ltb}
 use Rattle.laws.proofs.Bools.{or-no, or-both}
 use Rattle.message.specs.declared.L3Message.{L3Message}
 use Rattle.message.specs.declared.ProductId.{ProductId}
+use Rattle.message.specs.declared.L3Snapshot.{L3Snapshot}
 use Rattle.piece.specs.declared.ReadSnapshot.{ReadSnapshot}
 use Rattle.piece.specs.declared.ReadSnapshot.the-variants as pieces
 use Rattle.piece.specs.Piece.{readSnapshot}
@@ -25,8 +26,9 @@ use Rattle.reconstructor_plan.specs.Rules.{effect, lineBy}
 use Rattle.reconstructor.specs.Refusals.{statusRefusal, admitRefusal, gateRefusal, turnRefusal}
 use Rattle.reconstructor_bootstrap.specs.declared.SnapshotAnswer.{SnapshotAnswer}
 use Rattle.reconstructor_bootstrap.specs.Snapshot.{acceptRefusal, pieceRefusal, bootRefusal}
-use Rattle.ledger.specs.Ledger.{Config, Call, bootstrap, apply, step, read, blank, Outcome, refused, invalidates, dropped, accepted, settle, applyOutcome, bootOutcome, viewBy, viewBoot, feedView}
+use Rattle.ledger.specs.Ledger.{Config, Call, bootstrap, apply, step, read, blank, Outcome, refused, invalidates, dropped, accepted, settle, applyOutcome, bootOutcome, viewBy, viewBoot, snapView, feedView}
 use Rattle.ledger.specs.Kept.{keptBy, keptBoot, keptAfter, keptAll, kept}
+use Rattle.ledger.specs.Sum.{numbered}
 use Rattle.ledger.proofs.Accept.{in-turn, step-applies}
 use Rattle.ledger.proofs.Follow.{viewAll}
 
@@ -107,33 +109,47 @@ module _ (c : Config) (n : Lengths) (v : View) (bytes : List ℕ) where
       let q = first-passed _ _ _ h in
       first-on _ _ _ _ (state-again (c .rules) n (v .segments) 0 (omega arith) (q .0)) (piece-again (readSnapshot bytes) (listed-most (c .rules) n (v .segments) (q .0)) (q .1))
 
-by-repeats : (c : Config) (n : Lengths) (m : L3Message) (v : View) (ks : List Call) (o : Outcome) → (o ≡ accepted → applyOutcome c n false v m ≡ accepted)
-    → Repeats v (viewAll c blank ks) → Repeats (viewBy m o v) (viewAll c blank (keptBy o ks (apply n m)))
-by-repeats c n m v ks refused h r = r
-by-repeats c n m v ks (invalidates k) h r =
-    record { line = r .line; last = r .last; fewer = r .fewer; up = λ z. let y : _≡_ {A = ℕ} 0 1 = cc in absurd (omega arith) }
-by-repeats c n m v ks dropped h r = r
-by-repeats c n m v ks accepted h r = rw (view-append c blank ks (apply n m ∷ [])) (apply-again c n v (viewAll c blank ks) r m (h refl))
+-- the fresh book has any number: an `apply` and a `bootstrap` do not go by it
+apply-numbered : (c : Config) (k : ℕ) (v : View) (n : Lengths) (m : L3Message) → feedView (numbered c k) v (apply n m) ≡ feedView c v (apply n m)
+unfolding feedView applyOutcome
+apply-numbered c k v n m = refl
 
-boot-repeats : (c : Config) (n : Lengths) (v : View) (bytes : List ℕ) (ks : List Call) (o : Option SnapshotAnswer) (s : ReadSnapshot) → readSnapshot bytes ≡ s
-    → (o ≡ none → bootOutcome c n v bytes ≡ none) → Repeats v (viewAll c blank ks)
-    → Repeats (viewBoot o s bytes v) (viewAll c blank (keptBoot o s ks (bootstrap n bytes)))
+boot-numbered : (c : Config) (k : ℕ) (v : View) (n : Lengths) (bytes : List ℕ) → feedView (numbered c k) v (bootstrap n bytes) ≡ feedView c v (bootstrap n bytes)
 unfolding feedView
-boot-repeats c n v bytes ks (some a) s e h r = r
-boot-repeats c n v bytes ks none (pieces.Refused x) e h r = r
-boot-repeats c n v bytes ks none (pieces.Snapshot x) e h r =
-    rw (boot-again c n v bytes (h refl), e) (record { line = refl; last = refl; fewer = omega arith; up = λ _. refl })
+boot-numbered c k v n bytes = refl
 
-repeat-step : (c : Config) (v : View) (ks : List Call) (k : Call) → Repeats v (viewAll c blank ks) → Repeats (feedView c v k) (viewAll c blank (keptAfter c v ks k))
-unfolding feedView keptAfter
-repeat-step c v ks (bootstrap n bytes) r = boot-repeats c n v bytes ks (bootOutcome c n v bytes) (readSnapshot bytes) refl (λ h. h) r
-repeat-step c v ks (apply n m) r = by-repeats c n m v ks _ (λ h. h) r
-repeat-step c v ks (step n h m) r = by-repeats c n m v ks _ (step-applies c n false v h m) r
-repeat-step c v ks (read q) r = r
+module _ (c : Config) (k : ℕ) where
+  by-repeats : (n : Lengths) (m : L3Message) (v : View) (ks : List Call) (o : Outcome) → (o ≡ accepted → applyOutcome c n false v m ≡ accepted)
+      → Repeats v (viewAll (numbered c k) blank ks) → Repeats (viewBy m o v) (viewAll (numbered c k) blank (keptBy o ks (apply n m)))
+  by-repeats n m v ks refused h r = r
+  by-repeats n m v ks (invalidates i) h r =
+      record { line = r .line; last = r .last; fewer = r .fewer; up = λ z. let y : _≡_ {A = ℕ} 0 1 = cc in absurd (omega arith) }
+  by-repeats n m v ks dropped h r = r
+  by-repeats n m v ks accepted h r =
+      rw (view-append (numbered c k) blank ks (apply n m ∷ []), apply-numbered c k (viewAll (numbered c k) blank ks) n m) (apply-again c n v (viewAll (numbered c k) blank ks) r m (h refl))
 
-repeats : (c : Config) (v : View) (ks rest : List Call) → Repeats v (viewAll c blank ks) → Repeats (viewAll c v rest) (viewAll c blank (keptAll c v ks rest))
-repeats c v ks [] r = r
-repeats c v ks (k ∷ rest) r = repeats c (feedView c v k) (keptAfter c v ks k) rest (repeat-step c v ks k r)
+  boot-first : (n : Lengths) (v : View) (bytes : List ℕ) (x : L3Snapshot) → readSnapshot bytes ≡ pieces.Snapshot x → bootOutcome c n v bytes ≡ none
+      → Repeats (snapView x bytes v) (feedView c blank (bootstrap n bytes))
+  unfolding feedView
+  boot-first n v bytes x e h = rw (boot-again c n v bytes h, e) (record { line = refl; last = refl; fewer = omega arith; up = λ _. refl })
 
-pub all-repeats : (c : Config) (ks : List Call) → Repeats (viewAll c blank ks) (viewAll c blank (kept c ks))
-all-repeats c ks = repeats c blank [] ks (record { line = refl; last = refl; fewer = omega arith; up = λ h. h })
+  boot-repeats : (n : Lengths) (v : View) (bytes : List ℕ) (ks : List Call) (o : Option SnapshotAnswer) (s : ReadSnapshot) → readSnapshot bytes ≡ s
+      → (o ≡ none → bootOutcome c n v bytes ≡ none) → Repeats v (viewAll (numbered c k) blank ks)
+      → Repeats (viewBoot o s bytes v) (viewAll (numbered c k) blank (keptBoot o s ks (bootstrap n bytes)))
+  boot-repeats n v bytes ks (some a) s e h r = r
+  boot-repeats n v bytes ks none (pieces.Refused x) e h r = r
+  boot-repeats n v bytes ks none (pieces.Snapshot x) e h r = rw (boot-numbered c k blank n bytes) (boot-first n v bytes x e (h refl))
+
+  repeat-step : (v : View) (ks : List Call) (x : Call) → Repeats v (viewAll (numbered c k) blank ks) → Repeats (feedView c v x) (viewAll (numbered c k) blank (keptAfter c v ks x))
+  unfolding feedView keptAfter
+  repeat-step v ks (bootstrap n bytes) r = boot-repeats n v bytes ks (bootOutcome c n v bytes) (readSnapshot bytes) refl (λ h. h) r
+  repeat-step v ks (apply n m) r = by-repeats n m v ks _ (λ h. h) r
+  repeat-step v ks (step n h m) r = by-repeats n m v ks _ (step-applies c n false v h m) r
+  repeat-step v ks (read q) r = r
+
+  repeats : (v : View) (ks rest : List Call) → Repeats v (viewAll (numbered c k) blank ks) → Repeats (viewAll c v rest) (viewAll (numbered c k) blank (keptAll c v ks rest))
+  repeats v ks [] r = r
+  repeats v ks (x ∷ rest) r = repeats (feedView c v x) (keptAfter c v ks x) rest (repeat-step v ks x r)
+
+  pub all-repeats : (ks : List Call) → Repeats (viewAll c blank ks) (viewAll (numbered c k) blank (kept c ks))
+  all-repeats ks = repeats blank [] ks (record { line = refl; last = refl; fewer = omega arith; up = λ h. h })

@@ -12,43 +12,28 @@ use lib.ListN.{length, take, drop, take-append-drop}
 use lib.Seq.{take-at}
 use Rattle.message.specs.declared.L3Side.{L3Side}
 use Rattle.message.specs.Amounts.{natOf}
-use Rattle.book.specs.declared.BestPrice.{BestPrice}
 use Rattle.book.specs.declared.Resting.{Resting}
-use Rattle.book.specs.Line.{Entry, queue}
+use Rattle.book.specs.Line.{queue}
 use Rattle.book.specs.Rows.{ceiling, rowsOf, lineOf}
 use Rattle.book_levels.specs.Levels.{prices, written, zeroed}
 use Rattle.book_levels.proofs.Writing.{length-levels}
 use Rattle.book_queue.specs.declared.EntryForm.the-variants.{Queue}
 use Rattle.book_queue.specs.Queue.{rowsAt}
 use Rattle.book_queue.proofs.Orders.{width-entries}
-use Rattle.book_valid.specs.declared.AuditAnswer.{AuditAnswer}
-use Rattle.reconstructor_state.proofs.Checks.{first-passed}
 use Rattle.reconstructor_state.specs.declared.BookReconstructor.{BookReconstructor}
 use Rattle.reconstructor_state.specs.declared.Status.{Status}
 use Rattle.reconstructor_state.specs.declared.Status.the-variants as statuses
 use Rattle.reconstructor_answers.specs.declared.StateError.{StateError}
 use Rattle.reconstructor_view.specs.declared.ViewError.{ViewError}
-use Rattle.reconstructor_view.specs.declared.Viewed.the-variants as views
-use Rattle.reconstructor_view.specs.declared.BestAnswer.the-variants as bests
-use Rattle.reconstructor_view.specs.declared.Audited.the-variants as audits
-use Rattle.reconstructor_view.specs.View.{stateRead, bookView, standing, viewed, bestOf, auditedOf}
+use Rattle.reconstructor_view.specs.View.{stateRead, bookView}
 use Rattle.reconstructor_view.proofs.View.{Readable, readable, valid-read}
 use Rattle.reconstructor_reads.specs.declared.Shown.{Shown}
 use Rattle.reconstructor_reads.specs.declared.Shown.the-variants.{Entries, OutputTooSmall}
 use Rattle.reconstructor_reads.specs.declared.LevelAnswer.the-variants as levels
 use Rattle.reconstructor_reads.specs.declared.StaleAnswer.the-variants as stales
-use Rattle.reconstructor_reads.specs.Reads.{Content, queueContent, levelsContent, Shows, shows, shown, levelRead, scratchShort, readOf, staleRead, levelQueue, priorityProfile, staleL2}
+use Rattle.reconstructor_reads.specs.Reads.{Content, queueContent, levelsContent, Shows, shows, shown, levelRead, scratchShort, staleRead, levelQueue, priorityProfile, staleL2}
 use Rattle.reconstructor_reads.specs.Said.{queueSaid, profileSaid, l2Said, volumesAt}
 use Rattle.reconstructor_reads.proofs.Laws.{queue-said, profile-said, l2-said}
-use Rattle.queue.specs.declared.QueueEstimate.{QueueEstimate}
-use Rattle.queue.specs.declared.QueueAhead.{QueueAhead}
-use Rattle.queue.specs.declared.QueueError.{QueueError}
-use Rattle.queue.specs.declared.EstimateAnswer.{EstimateAnswer}
-use Rattle.queue.specs.declared.EstimateAnswer.the-variants as estimates
-use Rattle.queue.specs.declared.AheadAnswer.{AheadAnswer}
-use Rattle.queue.specs.declared.AheadAnswer.the-variants as queues
-use Rattle.queue.specs.Estimates.{EstimateParts, estimated, ownViewed, aheadRefusal, aheadOf}
-use Rattle.ledger.specs.Sum.{invalid, standingOf, TurnedAway}
 use Rattle.ledger.proofs.Stands.{rows-front}
 
 -- a read that shows k entries has written the content's words, so many
@@ -129,60 +114,3 @@ module _ (b : BookReconstructor) (rows : List ℕ) (n : ℕ) (sc : List ℕ) (s 
       ∙ ap l2Said (first-words (levelsContent 2 s os) out _ k 2 w (length-levels 2 (omega arith) s os (prices s (lineOf os))))
       ∙ l2-said s os
       ∙ ap (λ (x : List Resting). volumesAt s x (prices s (lineOf x))) r
-
--- ---- an invalid book: a read that says something has a valid view, and it has none
-
-sequence-view : (o : Option ViewError) (at last : ℕ) → viewed o at ≡ views.Valid last → o ≡ none
-unfolding viewed
-sequence-view (some e) at last h = let z : _≡_ {A = ℕ} 0 1 = cc in absurd (omega arith)
-sequence-view none at last h = refl
-
-best-view : (o : Option ViewError) (l : List Entry) (bid ask : BestPrice) → bestOf o l ≡ bests.Prices bid ask → o ≡ none
-unfolding bestOf
-best-view (some e) l bid ask h = let z : _≡_ {A = ℕ} 0 1 = cc in absurd (omega arith)
-best-view none l bid ask h = refl
-
-audit-view : (o : Option ViewError) (os : List Resting) (a : AuditAnswer) → auditedOf o os ≡ audits.Found a → o ≡ none
-unfolding auditedOf
-audit-view (some e) os a h = let z : _≡_ {A = ℕ} 0 1 = cc in absurd (omega arith)
-audit-view none os a h = refl
-
-estimate-view : (o : Option ViewError) (p : EstimateParts) (l : List ℕ) (q : QueueEstimate) → estimated o p l .answer ≡ estimates.Estimate q → o ≡ none
-unfolding estimated
-estimate-view (some e) p l q h = let z : _≡_ {A = ℕ} 0 1 = cc in absurd (omega arith)
-estimate-view none p l q h = refl
-
-own-view : (o : Option ViewError) (a : EstimateAnswer) (q : QueueEstimate) → ownViewed o a ≡ estimates.Estimate q → o ≡ none
-unfolding ownViewed
-own-view (some e) a q h = let z : _≡_ {A = ℕ} 0 1 = cc in absurd (omega arith)
-own-view none a q h = refl
-
-ahead-view : (o : Option QueueError) (a : AheadAnswer) (x : QueueAhead) → aheadOf o a ≡ queues.Ahead x → o ≡ none
-unfolding aheadOf
-ahead-view (some e) a x h = let z : _≡_ {A = ℕ} 0 1 = cc in absurd (omega arith)
-ahead-view none a x h = refl
-
-no-view : (b : BookReconstructor) (ws : List ℕ) (short : Bool) → standingOf (b .status) ≡ invalid → bookView ceiling b ws short ≡ none → ⊥
-no-view b ws short h q = go (b .status) h (valid-read b ws short q .1)
-  where
-    go : (t : Status) → standingOf t ≡ invalid → standing t ≡ none → ⊥
-    go statuses.Empty p r = let z : _≡_ {A = ℕ} 0 1 = cc in omega (arith, z)
-    go (statuses.Valid last) p r = let z : _≡_ {A = ℕ} 0 1 = cc in omega (arith, z)
-    go (statuses.Invalidated i) p r = let z : _≡_ {A = ℕ} 0 1 = cc in omega (arith, z)
-
-pub turned-away : (b : BookReconstructor) (ws : List ℕ) → standingOf (b .status) ≡ invalid → TurnedAway b ws
-unfolding aheadRefusal
-turned-away b ws h =
-    let levels-none : (c : Content) (sc out : List ℕ) (x : Shown) → readOf ceiling b ws sc c out .answer ≡ levels.Shown x → ⊥ = λ c sc out x q.
-    no-view b ws (scratchShort b sc) h (level-shown (bookView ceiling b ws (scratchShort b sc)) (shown (b .rules .«max_orders») c sc out) sc out x q .0) in
-    record {
-      last-sequence = λ last q. no-view b ws false h (sequence-view (bookView ceiling b ws false) _ last q);
-      best = λ bid ask q. no-view b ws false h (best-view (bookView ceiling b ws false) _ bid ask q);
-      audit = λ a q. no-view b ws false h (audit-view (bookView ceiling b ws false) _ a q);
-      level-queue = λ sc s z out x q. levels-none (queueContent s (natOf z) (rowsOf ws (b .rows))) sc out x q;
-      priority-profile = λ sc s out x q. levels-none (levelsContent 3 s (rowsOf ws (b .rows))) sc out x q;
-      level-volumes = λ sc s out x q. levels-none (levelsContent 2 s (rowsOf ws (b .rows))) sc out x q;
-      queue-estimate = λ s z ahead q e. no-view b ws false h (estimate-view (bookView ceiling b ws false) _ ahead q e);
-      queue-estimate-own = λ d q e. no-view b ws false h (own-view (bookView ceiling b ws false) _ q e);
-      volume-ahead = λ q ahead a e. no-view b ws false h (first-passed (bookView ceiling b ws false) _ _ (ahead-view (aheadRefusal ceiling b ws q ahead) _ a e) .0);
-    }

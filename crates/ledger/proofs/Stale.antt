@@ -1,12 +1,13 @@
 -- Once invalidated, nothing counts and nothing rests anew: the line is what it was before the invalidating message.
 -- Assumes nothing.
-use Prim.Native.Nat.{ℕ}
+use Prim.Native.Nat.{ℕ, zero, suc}
 use native.Mathlib.Omega.{arith}
 use mathlib.Core.Bool.{Bool, true, false}
 use mathlib.Core.Path.{_≡_, refl, sym, ap, _∙_}
 use mathlib.Core.Logic.{_⊎_, inl, inr}
 use mathlib.Core.List.{List, [], _∷_, _++_, append-assoc, append-nil}
 use mathlib.Core.Option.{Option, none, some}
+use lib.ListN.{take}
 use Rattle.message.specs.declared.L3Message.{L3Message}
 use Rattle.piece.specs.declared.ReadSnapshot.{ReadSnapshot}
 use Rattle.piece.specs.declared.ReadSnapshot.the-variants as pieces
@@ -90,6 +91,21 @@ frozen c v ks (apply n m) q = by-frozen m v ks (apply n m) (applyOutcome c n fal
 frozen c v ks (step n h m) q = by-frozen m v ks (apply n m) (stepOutcome c n false v h m) (step-touched c n v h m) q
 frozen c v ks (read x) q = record { was = inl q; kept = refl; line = refl }
 
+-- every prefix of the calls leaves the view invalid
+abbrev Stays : Config → View → List Call → Type 0
+Stays c v [] = standingOf (v .status) ≡ invalid
+Stays c v (k ∷ ks) = (standingOf (v .status) ≡ invalid) × Stays c (feedView c v k) ks
+
+stays-more : (c : Config) (v : View) (ks : List Call) (k : Call) → Stays c v ks → standingOf (viewAll c v (ks ++ (k ∷ [])) .status) ≡ invalid → Stays c v (ks ++ (k ∷ []))
+stays-more c v [] k s q = (s, q)
+stays-more c v (x ∷ ks) k s q = (s .0, stays-more c (feedView c v x) ks k (s .1) q)
+
+pub stays-at : (c : Config) (v : View) (ks : List Call) (n : ℕ) → Stays c v ks → standingOf (viewAll c v (take n ks) .status) ≡ invalid
+stays-at c v [] zero s = s
+stays-at c v [] (suc n) s = s
+stays-at c v (x ∷ ks) zero s = s .0
+stays-at c v (x ∷ ks) (suc n) s = stays-at c (feedView c v x) ks n (s .1)
+
 -- the calls so far fall into those before an invalidating message, that message, and those since
 pub record Stale (c : Config) (ks : List Call) : Type 0 where
   pub before : List Call
@@ -97,7 +113,7 @@ pub record Stale (c : Config) (ks : List Call) : Type 0 where
   pub after : List Call
   pub parts : ks ≡ before ++ (bad ∷ after)
   pub stood : standingOf (viewAll c blank before .status) ≡ valid
-  pub fell : standingOf (viewAll c blank (before ++ (bad ∷ [])) .status) ≡ invalid
+  pub stays : Stays c (viewAll c blank (before ++ (bad ∷ []))) after
   pub kept : kept c ks ≡ kept c before
   pub line : viewAll c blank ks .line ≡ viewAll c blank before .line
 
@@ -123,6 +139,14 @@ one-more c ks k st q = go (f .was)
     same-line : viewAll c blank (ks ++ (k ∷ [])) .line ≡ viewAll c blank ks .line
     same-line = ap (λ (x : View). x .line) (view-append c blank ks (k ∷ [])) ∙ f .line
 
+    ended : (s : Stale c ks) → standingOf (viewAll c (viewAll c blank (s .before ++ (s .bad ∷ []))) (s .after ++ (k ∷ [])) .status) ≡ invalid
+    ended s =
+        let e : ks ++ (k ∷ []) ≡ (s .before ++ (s .bad ∷ [])) ++ (s .after ++ (k ∷ [])) =
+        ap (λ (x : List Call). x ++ (k ∷ [])) (s .parts)
+        ∙ append-assoc (s .before) (s .bad ∷ s .after) (k ∷ [])
+        ∙ sym (append-assoc (s .before) (s .bad ∷ []) (s .after ++ (k ∷ []))) in
+        sym (ap (λ (x : View). standingOf (x .status)) (ap (viewAll c blank) e ∙ view-append c blank (s .before ++ (s .bad ∷ [])) (s .after ++ (k ∷ [])))) ∙ q
+
     go : ((standingOf (viewAll c blank ks .status) ≡ invalid) ⊎ (standingOf (viewAll c blank ks .status) ≡ valid)) → Stale c (ks ++ (k ∷ []))
     go (inl z) =
         let s = st z in
@@ -132,11 +156,11 @@ one-more c ks k st q = go (f .was)
           after = s .after ++ (k ∷ []);
           parts = ap (λ (x : List Call). x ++ (k ∷ [])) (s .parts) ∙ append-assoc (s .before) (s .bad ∷ s .after) (k ∷ []);
           stood = s .stood;
-          fell = s .fell;
+          stays = stays-more c (viewAll c blank (s .before ++ (s .bad ∷ []))) (s .after) k (s .stays) (ended s);
           kept = same-kept ∙ s .kept;
           line = same-line ∙ s .line;
         }
-    go (inr z) = record { before = ks; bad = k; after = []; parts = refl; stood = z; fell = q; kept = same-kept; line = same-line }
+    go (inr z) = record { before = ks; bad = k; after = []; parts = refl; stood = z; stays = q; kept = same-kept; line = same-line }
 
 more : (c : Config) (ks rest : List Call) → IfStale c ks → IfStale c (ks ++ rest)
 more c ks [] st = rw (append-nil ks) st
@@ -144,3 +168,10 @@ more c ks (k ∷ rest) st = rw (append-assoc ks (k ∷ []) rest) at (more c (ks 
 
 pub stale-line : (c : Config) (ks : List Call) → standingOf (viewAll c blank ks .status) ≡ invalid → Stale c ks
 stale-line c ks = more c [] ks (λ q. let z : _≡_ {A = ℕ} 0 1 = cc in absurd (omega arith))
+
+-- after the invalidating message and any number of those since
+pub stale-since : (c : Config) (ks : List Call) (s : Stale c ks) (n : ℕ) → standingOf (viewAll c blank (s .before ++ (s .bad ∷ take n (s .after))) .status) ≡ invalid
+stale-since c ks s n =
+    ap (λ (x : View). standingOf (x .status))
+    (ap (viewAll c blank) (sym (append-assoc (s .before) (s .bad ∷ []) (take n (s .after)))) ∙ view-append c blank (s .before ++ (s .bad ∷ [])) (take n (s .after)))
+    ∙ stays-at c (viewAll c blank (s .before ++ (s .bad ∷ []))) (s .after) n (s .stays)

@@ -105,7 +105,7 @@ recorded-start : (sg : List Segment) (n : ℕ) (m : L3Message) (a : ApplyAnswer)
 unfolding recorded
 recorded-start sg n m a = start-set sg (n - 1) _ (next-start (segmentAt sg (n - 1)) a (m .sequence) (m .«time_us»))
 
-own-none : (b : BookReconstructor) (ws : List ℕ) (sg : List Segment) → Usable ceiling b ws (length sg) → stateRefusal ceiling (b .rules) (lengthsOf ws sg) false (b .segments) ≡ none
+pub own-none : (b : BookReconstructor) (ws : List ℕ) (sg : List Segment) → Usable ceiling b ws (length sg) → stateRefusal ceiling (b .rules) (lengthsOf ws sg) false (b .segments) ≡ none
 unfolding stateRefusal
 own-none b ws sg u = goes-on _ _ _ _ (u .within) (goes-on _ _ _ _ (u .lent) (goes-on _ _ _ _ refl refl))
 
@@ -193,7 +193,7 @@ module _ (b : BookReconstructor) (ws : List ℕ) (sg : List Segment) (s : ℕ) (
     unfolding stepOutcome stepRefusal stepSettle
     range-outcome q = rw (first-on _ _ _ _ (own-none b ws sg u) (goes-on _ _ _ _ p (fails _ _ _ q)))
 
-    same-start : viewOf b ws sg .startSeq ≡ s
+    pub same-start : viewOf b ws sg .startSeq ≡ s
     same-start =
         let k = or-no (h .ended) (eqb (b .segments) 0 || not (sameSegment (h .segment) (segmentOf b))) p in
         let z : b .segments ≡ 0 → ⊥ = eqb-false (b .segments) 0 (or-no (eqb (b .segments) 0) (not (sameSegment (h .segment) (segmentOf b))) (k .1) .0) in
@@ -229,7 +229,7 @@ module _ (b : BookReconstructor) (ws : List ℕ) (sg : List Segment) (s : ℕ) (
   abbrev BootStands : Option SnapshotAnswer → SnapshotParts → Type 0
   BootStands o p = Stands (configOf b) (p .book) (p .rows) (p .segments) (viewBoot o (readSnapshot bytes) bytes (seen s b ws))
 
-  boot-same : bootOutcome (configOf b) (lengthsOf ws sg) (seen s b ws) bytes ≡ refusalOf ceiling b ws sg bytes
+  pub boot-same : bootOutcome (configOf b) (lengthsOf ws sg) (seen s b ws) bytes ≡ refusalOf ceiling b ws sg bytes
   unfolding bootRefusal
   boot-same = first-on _ _ _ _ (own-none b ws sg u) refl ∙ sym (first-on _ _ _ _ (usable-none ceiling b ws (length sg) u) (piece-same (readSnapshot bytes)))
     where

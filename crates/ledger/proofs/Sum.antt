@@ -1,25 +1,31 @@
 -- The sum rule, of any list of calls.
 -- Assumes nothing.
-use Prim.Native.Nat.{ℕ}
+use Prim.Native.Nat.{ℕ, _-_, _≤_}
+use native.Mathlib.Omega.{arith}
 use mathlib.Core.Path.{_≡_, refl, sym, ap, ap₂, subst, _∙_}
 use mathlib.Core.List.{List, [], _∷_, _++_, map, append-assoc}
-use lib.ListN.{length, take}
+use lib.ListN.{length, take, drop, take-append-drop}
 use Rattle.message.specs.declared.L3Side.{L3Side}
 use Rattle.message.specs.Amounts.{natOf}
 use Rattle.book.specs.Line.{Entry, volume, queue}
 use Rattle.book_levels.specs.Levels.{prices}
 use Rattle.reconstructor_segments.specs.declared.Segment.{Segment}
-use Rattle.reconstructor_state.specs.State.{View}
+use Rattle.reconstructor_segments.specs.Segments.{segmentAt}
+use Rattle.reconstructor_state.specs.State.{View, lastOf}
 use Rattle.ledger.specs.Ledger.{Config, Call, bootstrap, apply, step, read, Ledger, blank, fresh, feed, feedAll}
 use Rattle.ledger.specs.World.{World, run, Lendable, freshWorld, lineAt}
 use Rattle.ledger.specs.Kept.{kept}
-use Rattle.ledger.specs.Sum.{standingOf, standingAt, Alike, Fallen, figuresOf, Read, SumRule}
+use Rattle.ledger.specs.Sum.{standingOf, standingAt, Stand, Alike, Fallen, figuresOf, Read, numbered, SumRule}
 use Rattle.ledger.proofs.Volumes.{Tallies}
 use Rattle.ledger.proofs.Accept.{all-tallies, fresh-tallies}
-use Rattle.ledger.proofs.Follow.{never-three, viewAll, follow-all, fresh-follows, line-is}
+use Rattle.ledger.proofs.Follow.{Follows, never-three, viewAll, follow-all, fresh-follows, line-is}
 use Rattle.ledger.proofs.Replay.{all-repeats}
-use Rattle.ledger.proofs.Stale.{Stale, stale-line}
-use Rattle.ledger.proofs.Said.{queue-said-of, profile-said-of, stale-said-of, turned-away}
+use Rattle.ledger.proofs.Stale.{Stale, stale-line, stale-since}
+use Rattle.ledger.proofs.Said.{queue-said-of, profile-said-of, stale-said-of}
+use Rattle.ledger.proofs.Answers.{queue-answers, profile-answers, last-answers, stale-answers, turned-away}
+use Rattle.ledger.proofs.Bound.{line-bound}
+use Rattle.ledger.proofs.Sums.{sums-on-the-way}
+use Rattle.ledger.proofs.Counts.{counts-are}
 
 feed-view : (c : Config) (l : Ledger) (ks : List Call) → feedAll c l ks .view ≡ viewAll c (l .view) ks
 feed-view c l [] = refl
@@ -36,59 +42,95 @@ alike : (w x : World) → lineAt w ≡ lineAt x → Alike w x
 alike w x e = record { volumes = λ s p. ap (volume s p) e; queues = λ s p. ap (queue s p) e }
 
 module _ (c : Config) (ws : List ℕ) (sg : List Segment) where
-  standing-is : (ks : List Call) → Lendable (length ws) (length sg) ks → standingAt (run (freshWorld c ws sg) ks) ≡ standingOf (viewAll c blank ks .status)
+  abbrev after : List Call → World
+  after ks = run (freshWorld c ws sg) ks
+
+  follows : (ks : List Call) → Lendable (length ws) (length sg) ks → Follows c (length ws) (length sg) (after ks) (feedAll c fresh ks .view)
+  follows ks l =
+      subst (Follows c (length ws) (length sg) (after ks)) (sym (feed-view c fresh ks)) (follow-all c (length ws) (length sg) (freshWorld c ws sg) blank ks (fresh-follows c ws sg) l)
+
+  standing-is : (ks : List Call) → Lendable (length ws) (length sg) ks → standingAt (after ks) ≡ standingOf (viewAll c blank ks .status)
   standing-is ks l =
       ap (λ (x : View). standingOf (x .status)) (follow-all c (length ws) (length sg) (freshWorld c ws sg) blank ks (fresh-follows c ws sg) l .stands .view)
 
-  ledger-line : (ks : List Call) → Lendable (length ws) (length sg) ks → lineAt (run (freshWorld c ws sg) ks) ≡ feedAll c fresh ks .view .line
-  ledger-line ks l = line-is c ws sg ks l ∙ ap (λ (x : View). x .line) (sym (feed-view c fresh ks))
+  ledger-line : (ks : List Call) → Lendable (length ws) (length sg) ks → lineAt (after ks) ≡ feedAll c fresh ks .view .line
+  ledger-line ks l = ap (λ (x : View). x .line) (follows ks l .stands .view)
+
+  figure-is : (ks : List Call) (s : L3Side) (p : ℕ) → feedAll c fresh ks .figure s p ≡ volume s p (feedAll c fresh ks .view .line)
+  unfolding Tallies
+  figure-is ks s p = all-tallies c fresh ks fresh-tallies s p
 
   figures-are : (ks : List Call) → Lendable (length ws) (length sg) ks → (s : L3Side) (ps : List ℕ)
-      → map (λ (p : ℕ). (p, volume s p (lineAt (run (freshWorld c ws sg) ks)))) ps ≡ figuresOf s ps (feedAll c fresh ks .figure)
-  unfolding Tallies
+      → map (λ (p : ℕ). (p, volume s p (lineAt (after ks)))) ps ≡ figuresOf s ps (feedAll c fresh ks .figure)
   figures-are ks l s [] = refl
   figures-are ks l s (p ∷ ps) =
-      ap₂ (λ (x : ℕ) (y : List (ℕ × ℕ)). (p, x) ∷ y) (ap (volume s p) (ledger-line ks l) ∙ sym (all-tallies c fresh ks fresh-tallies s p)) (figures-are ks l s ps)
+      ap₂ (λ (x : ℕ) (y : List (ℕ × ℕ)). (p, x) ∷ y) (ap (volume s p) (ledger-line ks l) ∙ sym (figure-is ks s p)) (figures-are ks l s ps)
 
-  read-facts : (ks : List Call) → Lendable (length ws) (length sg) ks → Read (run (freshWorld c ws sg) ks) (feedAll c fresh ks)
+  stand-facts : (ks : List Call) → Lendable (length ws) (length sg) ks → Stand (after ks) (feedAll c fresh ks)
+  stand-facts ks l =
+      let f = follows ks l in
+      let e : after ks .book .segments ≡ feedAll c fresh ks .view .segments = ap (λ (x : View). x .segments) (f .stands .view) in
+      record {
+        standing = ap (λ (x : View). standingOf (x .status)) (f .stands .view);
+        last = ap (λ (x : View). lastOf (x .status)) (f .stands .view);
+        status = ap (λ (x : View). x .status) (f .stands .view);
+        snapshots = e;
+        start = λ z. ap (λ (k : ℕ). segmentAt (after ks .segments) (k - 1) .«start_seq») (sym e) ∙ f .stands .start (omega (arith, e, z));
+      }
+
+  read-facts : (ks : List Call) → Lendable (length ws) (length sg) ks → Read (c .rules) (after ks) (feedAll c fresh ks)
   read-facts ks l =
-      let w : World = run (freshWorld c ws sg) ks in
+      let w : World = after ks in
+      let v : View = feedAll c fresh ks .view in
+      let f : Follows c (length ws) (length sg) w v = follows ks l in
       record {
         queue-read = λ n sc s z out k h. queue-said-of (w .book) (w .rows) n sc s out k z h ∙ ap (queue s (natOf z)) (ledger-line ks l);
         profile-read = λ n sc s out k h.
             profile-said-of (w .book) (w .rows) n sc s out k h
             ∙ figures-are ks l s (prices s (lineAt w))
             ∙ ap (λ (x : List Entry). figuresOf s (prices s x) (feedAll c fresh ks .figure)) (ledger-line ks l);
-        turned-away = λ h n. turned-away (w .book) (take n (w .rows)) h;
+        queue-answers = λ h n sc e s z out k. queue-answers c (length ws) (length sg) w v f n sc e h s z out k;
+        profile-answers = λ h n sc e s out k. profile-answers c (length ws) (length sg) w v f n sc e h s out k;
+        last-answers = λ h n e. last-answers c (length ws) (length sg) w v f n h e;
+        turned-away = λ h n. turned-away c (length ws) (length sg) w v f n h;
+        stale-answers = λ h n sc e s out k. stale-answers c (length ws) (length sg) w v f n sc e h s out k;
       }
 
   pub sum-rule : (ks : List Call) → Lendable (length ws) (length sg) ks → SumRule c ws sg ks
-  unfolding Tallies
   sum-rule ks l =
       record {
-        volumes = λ s p. ap (volume s p) (ledger-line ks l) ∙ sym (all-tallies c fresh ks fresh-tallies s p);
+        volumes = λ s p. ap (volume s p) (ledger-line ks l) ∙ sym (figure-is ks s p);
         queues = λ s p. ap (queue s p) (ledger-line ks l);
-        afresh = λ ws′ sg′ l′. alike _ _ (line-is c ws sg ks l ∙ sym (all-repeats c ks .line) ∙ sym (line-is c ws′ sg′ (kept c ks) l′));
+        stands = stand-facts ks l;
+        counts = counts-are c ws sg ks l;
+        bound = λ s p.
+            subst (λ (x : ℕ). x ≤ 4096000000000000000) (ap (λ (x : View). volume s p (x .line)) (sym (feed-view c fresh ks)) ∙ sym (figure-is ks s p))
+            (line-bound c (length ws) (length sg) (after ks) ks (follow-all c (length ws) (length sg) (freshWorld c ws sg) blank ks (fresh-follows c ws sg) l) s p);
+        on-the-way = sums-on-the-way;
+        afresh = λ k ws′ sg′ l′. alike _ _ (line-is c ws sg ks l ∙ sym (all-repeats c k ks .line) ∙ sym (line-is (numbered c k) ws′ sg′ (kept c ks) l′));
         reads = read-facts ks l;
         never-three = λ n f.
-            never-three c (length ws) (length sg) (run (freshWorld c ws sg) ks) (viewAll c blank ks)
+            never-three c (length ws) (length sg) (after ks) (viewAll c blank ks)
             (follow-all c (length ws) (length sg) (freshWorld c ws sg) blank ks (fresh-follows c ws sg) l) n f;
-        fallen = λ h. fall (stale-line c ks (sym (standing-is ks l) ∙ h));
+        fallen = λ h. fall (stale-line c ks (ap (λ (x : View). standingOf (x .status)) (sym (feed-view c fresh ks)) ∙ h));
       }
     where
       fall : Stale c ks → Fallen c (freshWorld c ws sg) ks
       fall t =
           let l₁ : Lendable (length ws) (length sg) (t .before ++ (t .bad ∷ t .after)) = subst (Lendable (length ws) (length sg)) (t .parts) l in
           let l₂ : Lendable (length ws) (length sg) (t .before) = lend-front _ _ (t .before) (t .bad ∷ t .after) l₁ in
-          let l₃ : Lendable (length ws) (length sg) (t .before ++ (t .bad ∷ [])) =
-          lend-front _ _ (t .before ++ (t .bad ∷ [])) (t .after) (subst (Lendable (length ws) (length sg)) (sym (append-assoc (t .before) (t .bad ∷ []) (t .after))) l₁) in
+          let l₃ : (n : ℕ) → Lendable (length ws) (length sg) (t .before ++ (t .bad ∷ take n (t .after))) = λ n.
+          lend-front _ _ (t .before ++ (t .bad ∷ take n (t .after))) (drop n (t .after))
+          (subst (Lendable (length ws) (length sg))
+          (sym (append-assoc (t .before) (t .bad ∷ take n (t .after)) (drop n (t .after)) ∙ ap (λ (x : List Call). t .before ++ (t .bad ∷ x)) (take-append-drop n (t .after)))) l₁) in
           record {
             before = t .before;
             bad = t .bad;
             after = t .after;
             parts = t .parts;
             stood = standing-is (t .before) l₂ ∙ t .stood;
-            fell = standing-is (t .before ++ (t .bad ∷ [])) l₃ ∙ t .fell;
+            fell = standing-is (t .before ++ (t .bad ∷ [])) (l₃ 0) ∙ stale-since c ks t 0;
+            since = λ n. standing-is (t .before ++ (t .bad ∷ take n (t .after))) (l₃ n) ∙ stale-since c ks t n;
             nothing = t .kept;
             stale = alike _ _ (line-is c ws sg ks l ∙ t .line ∙ sym (line-is c ws sg (t .before) l₂));
             stale-read = λ n sc s out k h.

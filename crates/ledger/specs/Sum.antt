@@ -1,46 +1,49 @@
--- Demand 3, the sum rule: "after ANY list of calls on one book, from a fresh one, the volume at each side and price, and the queue order there, equal a ledger's,
--- worked out from the calls alone."
-use Prim.Native.Nat.{ℕ, _*_}
+-- Demand 3, the sum rule: one claim about any list of calls on one book from a fresh one. Words in quotation marks are the demand's, or 01's where it is named.
+use Prim.Native.Nat.{ℕ, _+_, _*_, _-_, _≤_, _<_}
 use mathlib.Core.Path.{_≡_}
 use mathlib.Core.List.{List, [], _∷_, _++_, map}
+use mathlib.Core.Bool.{Bool, false, _||_, cond}
 use mathlib.Core.Option.{some}
+use lib.Dec.{ltb}
 use lib.IntN.{ℤ}
 use lib.ListN.{length, take}
 use Rattle.message.specs.declared.L3Side.{L3Side}
 use Rattle.message.specs.declared.OrderId.{OrderId}
 use Rattle.message.specs.Amounts.{natOf}
-use Rattle.book.specs.declared.BestPrice.{BestPrice}
-use Rattle.book.specs.Line.{queue}
+use Rattle.message.specs.declared.L3Snapshot.{L3Snapshot}
+use Rattle.piece.specs.declared.ReadSnapshot.the-variants.{Snapshot}
+use Rattle.piece.specs.Piece.{readSnapshot}
+use Rattle.book.specs.Line.{volume, queue}
 use Rattle.book.specs.Rows.{ceiling}
 use Rattle.book_levels.specs.Levels.{prices}
-use Rattle.book_valid.specs.declared.AuditAnswer.{AuditAnswer}
 use Rattle.reconstructor_answers.specs.declared.StateError.the-variants.{MalformedBook}
 use Rattle.reconstructor_segments.specs.declared.Segment.{Segment}
 use Rattle.reconstructor_state.specs.declared.BookReconstructor.{BookReconstructor}
-use Rattle.reconstructor_state.specs.State.{Lengths}
-use Rattle.reconstructor_checks.specs.Own.{bookRefusal}
+use Rattle.reconstructor_segments.specs.Segments.{segmentAt}
+use Rattle.reconstructor_state.specs.declared.VenueRules.{VenueRules}
+use Rattle.reconstructor_state.specs.State.{Lengths, lastOf}
+use Rattle.reconstructor_checks.specs.Own.{overCeiling, bookRefusal}
+use Rattle.reconstructor_bootstrap.specs.Snapshot.{snapshotLine}
 use Rattle.reconstructor_view.specs.declared.Viewed.the-variants as views
-use Rattle.reconstructor_view.specs.declared.BestAnswer.the-variants as bests
-use Rattle.reconstructor_view.specs.declared.Audited.the-variants as audits
 use Rattle.reconstructor_view.specs.View.{lastSequence, bestRead, auditRead}
-use Rattle.reconstructor_reads.specs.declared.Shown.{Shown}
 use Rattle.reconstructor_reads.specs.declared.Shown.the-variants.{Entries}
 use Rattle.reconstructor_reads.specs.declared.LevelAnswer.the-variants as levels
 use Rattle.reconstructor_reads.specs.declared.StaleAnswer.the-variants as stales
+use Rattle.reconstructor_reads.specs.Numbers.{levelNumber}
 use Rattle.reconstructor_reads.specs.Reads.{levelQueue, priorityProfile, l2, staleL2}
 use Rattle.reconstructor_reads.specs.Said.{queueSaid, profileSaid, l2Said}
 use Rattle.queue.specs.declared.QueueEstimate.{QueueEstimate}
-use Rattle.queue.specs.declared.QueueAhead.{QueueAhead}
-use Rattle.queue.specs.declared.EstimateAnswer.the-variants as estimates
-use Rattle.queue.specs.declared.AheadAnswer.the-variants as queues
+use Rattle.queue.specs.Numbers.{estimateNumber, aheadNumber}
 use Rattle.queue.specs.Estimates.{queueEstimate, queueEstimateOwn, volumeAhead}
 use Rattle.reconstructor_state.specs.declared.Status.{Status}
 use Rattle.reconstructor_state.specs.declared.Status.the-variants as statuses
-use Rattle.ledger.specs.Ledger.{Config, Call, Figure, Ledger, fresh, feedAll}
+use Rattle.ledger.specs.Ledger.{Config, Call, Figure, Ledger, blank, fresh, feedAll}
 use Rattle.ledger.specs.World.{World, lentRows, lentSegments, run, Fits, Lendable, freshWorld, lineAt, volumeAt, queueAt}
 use Rattle.ledger.specs.Kept.{kept}
+use Rattle.ledger.specs.Counts.{timesIn, upTo, countsBy}
+use Rattle.ledger.specs.Numbers.{viewedNumber, bestNumber, auditedNumber}
 
--- "standing (no snapshot, valid or invalid)"
+-- 01, The ledger: "standing (no snapshot, valid or invalid)"
 pub data Standing : Type 0 where
   noSnapshot : Standing
   valid : Standing
@@ -51,9 +54,21 @@ standingOf statuses.Empty = noSnapshot
 standingOf (statuses.Valid last) = valid
 standingOf (statuses.Invalidated i) = invalid
 
--- of a book
+-- of a book, and of the ledger
 abbrev pub standingAt : World → Standing
 standingAt w = standingOf (w .book .status)
+
+abbrev pub ledgerStanding : Ledger → Standing
+ledgerStanding l = standingOf (l .view .status)
+
+-- the book's standing, last sequence, number of snapshots and start are the ledger's; so is the reason of an invalid one
+pub record Stand (w : World) (l : Ledger) : Type 0 where
+  pub standing : standingAt w ≡ ledgerStanding l
+  pub last : lastOf (w .book .status) ≡ lastOf (l .view .status)
+  pub status : w .book .status ≡ l .view .status
+  pub snapshots : w .book .segments ≡ l .view .segments
+  -- the record of the segment that the book is in, once there is one
+  pub start : 0 < l .view .segments → segmentAt (w .segments) (l .view .segments - 1) .«start_seq» ≡ l .view .startSeq
 
 -- what rests at each side and price is the same
 pub record Alike (w x : World) : Type 0 where
@@ -64,31 +79,60 @@ pub record Alike (w x : World) : Type 0 where
 abbrev pub figuresOf : L3Side → List ℕ → Figure → List (ℕ × ℕ)
 figuresOf s ps f = map (λ (p : ℕ). (p, f s p)) ps
 
--- "every read but the stale one is turned away": whatever it is asked and lent beside these rows, none says anything of the book
-pub record TurnedAway (b : BookReconstructor) (ws : List ℕ) : Type 0 where
-  pub last-sequence : (last : ℕ) → lastSequence ceiling b ws ≡ views.Valid last → ⊥
-  pub best : (bid ask : BestPrice) → bestRead ceiling b ws ≡ bests.Prices bid ask → ⊥
-  pub audit : (a : AuditAnswer) → auditRead ceiling b ws ≡ audits.Found a → ⊥
-  pub level-queue : (sc : List ℕ) (s : L3Side) (z : ℤ) (out : List ℕ) (x : Shown) → levelQueue ceiling b ws sc s z out .answer ≡ levels.Shown x → ⊥
-  pub priority-profile : (sc : List ℕ) (s : L3Side) (out : List ℕ) (x : Shown) → priorityProfile ceiling b ws sc s out .answer ≡ levels.Shown x → ⊥
-  pub level-volumes : (sc : List ℕ) (s : L3Side) (out : List ℕ) (x : Shown) → l2 ceiling b ws sc s out .answer ≡ levels.Shown x → ⊥
-  pub queue-estimate : (s : L3Side) (z : ℤ) (ahead : List ℕ) (q : QueueEstimate) → queueEstimate ceiling b ws s z ahead .answer ≡ estimates.Estimate q → ⊥
-  pub queue-estimate-own : (d : OrderId) (q : QueueEstimate) → queueEstimateOwn ceiling b ws d ≡ estimates.Estimate q → ⊥
-  pub volume-ahead : (q : QueueEstimate) (ahead : List ℕ) (a : QueueAhead) → volumeAhead ceiling b ws q ahead ≡ queues.Ahead a → ⊥
+-- ---- the reads
+
+-- 1 and 2 do not arise: limits within the ceiling, and so many words of rows and of scratch
+pub record Enough (v : VenueRules) (rows scratch : ℕ) : Type 0 where
+  pub orders : v .«max_orders» ≤ ceiling
+  pub levels : v .«max_levels» ≤ ceiling
+  pub lent : 8 * v .«max_orders» ≤ rows
+  pub room : v .«max_orders» ≤ scratch
+
+-- the number of a read of an invalid book: 1, 2, then 18; `short` says that too little scratch is lent
+abbrev pub invalidNumber : VenueRules → ℕ → Bool → ℕ
+invalidNumber v rows short = cond (overCeiling ceiling v) 1 (cond (ltb rows (8 * v .«max_orders») || short) 2 18)
+
+-- "every read is turned away save the stale one": each by exactly that number, whatever it is asked and lent beside these rows
+pub record TurnedAway (v : VenueRules) (b : BookReconstructor) (ws : List ℕ) : Type 0 where
+  pub last-sequence : viewedNumber (lastSequence ceiling b ws) ≡ invalidNumber v (length ws) false
+  pub best : bestNumber (bestRead ceiling b ws) ≡ invalidNumber v (length ws) false
+  pub audit : auditedNumber (auditRead ceiling b ws) ≡ invalidNumber v (length ws) false
+  pub level-queue : (sc : List ℕ) (s : L3Side) (z : ℤ) (out : List ℕ)
+      → levelNumber (levelQueue ceiling b ws sc s z out .answer) ≡ invalidNumber v (length ws) (ltb (length sc) (v .«max_orders»))
+  pub priority-profile : (sc : List ℕ) (s : L3Side) (out : List ℕ)
+      → levelNumber (priorityProfile ceiling b ws sc s out .answer) ≡ invalidNumber v (length ws) (ltb (length sc) (v .«max_orders»))
+  pub level-volumes : (sc : List ℕ) (s : L3Side) (out : List ℕ)
+      → levelNumber (l2 ceiling b ws sc s out .answer) ≡ invalidNumber v (length ws) (ltb (length sc) (v .«max_orders»))
+  pub queue-estimate : (s : L3Side) (z : ℤ) (ahead : List ℕ) → estimateNumber (queueEstimate ceiling b ws s z ahead .answer) ≡ invalidNumber v (length ws) false
+  pub queue-estimate-own : (d : OrderId) → estimateNumber (queueEstimateOwn ceiling b ws d) ≡ invalidNumber v (length ws) false
+  pub volume-ahead : (q : QueueEstimate) (ahead : List ℕ) → aheadNumber (volumeAhead ceiling b ws q ahead) ≡ invalidNumber v (length ws) false
 
 -- what is read of a book, lent the first n words of its rows and any scratch and output
-pub record Read (w : World) (l : Ledger) : Type 0 where
-  -- "the queue and profile reads, unless the table turns them away, give exactly these where asked"
+pub record Read (v : VenueRules) (w : World) (l : Ledger) : Type 0 where
+  -- "the queue and profile reads .. give exactly these where asked"
   pub queue-read : (n : ℕ) (sc : List ℕ) (s : L3Side) (z : ℤ) (out : List ℕ) (k : ℕ)
       → levelQueue ceiling (w .book) (take n (w .rows)) sc s z out .answer ≡ levels.Shown (Entries k)
       → queueSaid (take (5 * k) (levelQueue ceiling (w .book) (take n (w .rows)) sc s z out .out)) ≡ queue s (natOf z) (l .view .line)
   pub profile-read : (n : ℕ) (sc : List ℕ) (s : L3Side) (out : List ℕ) (k : ℕ)
       → priorityProfile ceiling (w .book) (take n (w .rows)) sc s out .answer ≡ levels.Shown (Entries k)
       → profileSaid (take (3 * k) (priorityProfile ceiling (w .book) (take n (w .rows)) sc s out .out)) ≡ figuresOf s (prices s (l .view .line)) (l .figure)
-  -- "from the invalidating message to the next accepted snapshot every read but the stale one is turned away"
-  pub turned-away : standingAt w ≡ invalid → (n : ℕ) → TurnedAway (w .book) (take n (w .rows))
+  -- "unless 01's table turns them away": where it names nothing they answer, with the number of orders and of levels
+  pub queue-answers : ledgerStanding l ≡ valid → (n : ℕ) (sc : List ℕ) → Enough v (length (take n (w .rows))) (length sc) → (s : L3Side) (z : ℤ) (out : List ℕ)
+      → 5 * length (queue s (natOf z) (l .view .line)) ≤ length out
+      → levelQueue ceiling (w .book) (take n (w .rows)) sc s z out .answer ≡ levels.Shown (Entries (length (queue s (natOf z) (l .view .line))))
+  pub profile-answers : ledgerStanding l ≡ valid → (n : ℕ) (sc : List ℕ) → Enough v (length (take n (w .rows))) (length sc) → (s : L3Side) (out : List ℕ)
+      → 3 * length (prices s (l .view .line)) ≤ length out
+      → priorityProfile ceiling (w .book) (take n (w .rows)) sc s out .answer ≡ levels.Shown (Entries (length (prices s (l .view .line))))
+  -- and so does the last sequence, with the ledger's
+  pub last-answers : ledgerStanding l ≡ valid → (n : ℕ) → Enough v (length (take n (w .rows))) (v .«max_orders»)
+      → lastSequence ceiling (w .book) (take n (w .rows)) ≡ views.Valid (lastOf (l .view .status))
+  -- "From the message that invalidated the book to the next accepted snapshot": the ledger is invalid
+  pub turned-away : ledgerStanding l ≡ invalid → (n : ℕ) → TurnedAway v (w .book) (take n (w .rows))
+  pub stale-answers : ledgerStanding l ≡ invalid → (n : ℕ) (sc : List ℕ) → Enough v (length (take n (w .rows))) (length sc) → (s : L3Side) (out : List ℕ)
+      → 2 * length (prices s (l .view .line)) ≤ length out
+      → staleL2 ceiling (w .book) (take n (w .rows)) sc s out .answer ≡ stales.Shown (Entries (length (prices s (l .view .line))))
 
--- "and the stale one, unless turned away, gives exactly the volumes that stood before that message"
+-- the stale one "gives exactly the volumes that stood before that message"
 abbrev pub StaleRead : World → World → Type 0
 StaleRead w x =
     (n : ℕ) (sc : List ℕ) (s : L3Side) (out : List ℕ) (k : ℕ) → staleL2 ceiling (w .book) (take n (w .rows)) sc s out .answer ≡ stales.Shown (Entries k)
@@ -102,22 +146,39 @@ pub record Fallen (c : Config) (start : World) (ks : List Call) : Type 0 where
   pub parts : ks ≡ before ++ (bad ∷ after)
   pub stood : standingAt (run start before) ≡ valid
   pub fell : standingAt (run start (before ++ (bad ∷ []))) ≡ invalid
+  -- no snapshot is accepted since: the first n calls after it, however many, leave the book invalid
+  pub since : (n : ℕ) → standingAt (run start (before ++ (bad ∷ take n after))) ≡ invalid
   pub nothing : kept c ks ≡ kept c before
   pub stale : Alike (run start ks) (run start before)
   pub stale-read : StaleRead (run start ks) (run start before)
 
+-- "a fresh book with the same product and rules": its number is any
+abbrev pub numbered : Config → ℕ → Config
+numbered c k = record { product = c .product; rules = c .rules; number = k }
+
 -- the calls `ks` on a fresh book of the product, rules and number `c`, with any words `ws` and records `sg` in its memory
 pub record SumRule (c : Config) (ws : List ℕ) (sg : List Segment) (ks : List Call) : Type 0 where
-  -- "the volume at each side and price .. equal a ledger's"
+  -- "the volume resting at each side and price equals the figure in 01's ledger, worked out from the calls alone"
   pub volumes : (s : L3Side) (p : ℕ) → volumeAt s p (run (freshWorld c ws sg) ks) ≡ feedAll c fresh ks .figure s p
-  -- "and the queue order there"
+  -- "The queue order there equals the ledger's."
   pub queues : (s : L3Side) (p : ℕ) → queueAt s p (run (freshWorld c ws sg) ks) ≡ queue s p (feedAll c fresh ks .view .line)
-  -- both are those of a fresh book, with any words and records in its memory, fed the last accepted snapshot and the messages accepted since, lent as much at each call
-  pub afresh : (ws′ : List ℕ) (sg′ : List Segment) → Lendable (length ws′) (length sg′) (kept c ks) → Alike (run (freshWorld c ws sg) ks) (run (freshWorld c ws′ sg′) (kept c ks))
-  -- from the invalidating message to the next accepted snapshot the rows are those that stood before it
-  pub fallen : standingAt (run (freshWorld c ws sg) ks) ≡ invalid → Fallen c (freshWorld c ws sg) ks
-  -- "3 never arises here": whatever the next call is lent
+  -- the rest of what the ledger holds
+  pub stands : Stand (run (freshWorld c ws sg) ks) (feedAll c fresh ks)
+  -- each of the twelve counts is the number of calls so far that 01 counts there, up to 2^64−1
+  pub counts : run (freshWorld c ws sg) ks .book .counts ≡ countsBy (λ (i : ℕ). upTo (timesIn c blank ks i))
+  -- 01, Values in the domain: "A level sum never exceeds 4.096 × 10^18"
+  pub bound : (s : L3Side) (p : ℕ) → feedAll c fresh ks .figure s p ≤ 4096000000000000000
+  -- and none on the way in a snapshot that reads and has no more than 4,096 orders, accepted or refused later: those of its first n orders
+  pub on-the-way : (bytes : List ℕ) (x : L3Snapshot) → readSnapshot bytes ≡ Snapshot x → x .bids + x .asks ≤ ceiling → (n : ℕ) (s : L3Side) (p : ℕ)
+      → volume s p (take n (snapshotLine x bytes)) ≤ 4096000000000000000
+  -- "Both equal those of a fresh book with the same product and rules fed that snapshot and the messages accepted since", any words and records in its memory,
+  -- lent as much at each call
+  pub afresh : (k : ℕ) (ws′ : List ℕ) (sg′ : List Segment) → Lendable (length ws′) (length sg′) (kept c ks)
+      → Alike (run (freshWorld c ws sg) ks) (run (freshWorld (numbered c k) ws′ sg′) (kept c ks))
+  -- "the volumes that stood before that message" are those that rest, and that the stale read gives
+  pub fallen : ledgerStanding (feedAll c fresh ks) ≡ invalid → Fallen c (freshWorld c ws sg) ks
+  -- 01, The ledger: "3 never arises here", whatever the next call is lent
   pub never-three : (n : Lengths) → Fits (length ws) (length sg) n
       → bookRefusal ceiling (run (freshWorld c ws sg) ks .book) (lentRows n (run (freshWorld c ws sg) ks)) (length (lentSegments n (run (freshWorld c ws sg) ks))) ≡ some MalformedBook → ⊥
   -- the reads of that book
-  pub reads : Read (run (freshWorld c ws sg) ks) (feedAll c fresh ks)
+  pub reads : Read (c .rules) (run (freshWorld c ws sg) ks) (feedAll c fresh ks)
