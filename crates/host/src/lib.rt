@@ -1,10 +1,14 @@
 // The library as Rust and C call it: functions on numbers and slices, each answering a number of 01's table, 0 for success (of a message that changed the
 // book, 256). A slice is lent as a pointer and a length; what one call is lent does not overlap.
+// Before the rules, a call that reads a state answers 768 where an input of fixed size is lent too short (27 words of state, 21 of a message, 4 of a handshake, 8 of an
+// estimate), 4 where words are those of no message, handshake, estimate or side, and 3, after 1 and 2, where the state is that of no book; it then touches nothing
+// (crate `host_boundary`). An output that is too small is 7, said last.
 use book_valid::rows_broken;
 ghost use mathlib.Core.Path.{_≡_};
 ghost use Rattle.piece.specs.Piece.{readMessage, readSnapshot, orderAt};
 ghost use Rattle.book.specs.Broken.{wordsBroken};
 ghost use Rattle.host_pieces.specs.Pieces.{messageNumber, messageOut, snapshotNumber, snapshotOut, orderNumber, orderOut};
+ghost use Rattle.host_new.specs.New.{newCall};
 ghost use Rattle.host_calls.specs.Calls.{applyCall, bootstrapCall, handshakeCall, stepCall};
 ghost use Rattle.host_replay.specs.Replay.{replayCall};
 ghost use Rattle.host_views.specs.Views.{lastCall, bestCall, auditCall, invalidationCall, segmentCall, queueCall, profileCall, l2Call, staleCall};
@@ -45,9 +49,35 @@ pub extern "C" fn pinuglaw_rows_broken(rows: &[u64], n: usize, max_levels: usize
     rows_broken(rows, n, max_levels)
 }
 
+// Creates a book in the first 27 words of `state`: no snapshot yet. Any limits are taken here: 1 is said by the calls. Answers 0; 4 where `size_decrease` is above 1,
+// then 7 where fewer words are lent, and touches nothing.
+#[no_mangle]
+pub extern "C" fn pinuglaw_new(
+    state: &mut [u64],
+    product_high: u64,
+    product_low: u64,
+    size_decrease: u64,
+    max_orders: u64,
+    max_levels: u64,
+    number: u64,
+) -> u64
+    ensures number { λ r. ⌜ r ≡ newCall (now (state .entry)) «product_high» «product_low» «size_decrease» «max_orders» «max_levels» number .number ⌝ }
+    ensures state { λ r. ⌜ now (state .exit) ≡ newCall (now (state .entry)) «product_high» «product_low» «size_decrease» «max_orders» «max_levels» number .out ⌝ }
+{
+    host_new::new_book(
+        state,
+        product_high,
+        product_low,
+        size_decrease,
+        max_orders,
+        max_levels,
+        number,
+    )
+}
+
 // Applies a message of 21 words to the book whose state is the first 27 words of `state`; crate `host_words` has both layouts in specs/Block.antt.
-// Answers 256 where the book changed, 0 where the message was applied without effect, else 01's number; 7, and touches nothing, where fewer words of
-// state or message are lent. Otherwise those 27 words are the state afterwards; of a refusal, but for the count that 10 and 17 raise, the words lent.
+// Answers 256 where the book changed, 0 where the message was applied without effect, else the number that turns it away. Those 27 words are the state afterwards; of a
+// refusal, but for the count that 10 and 17 raise, the words lent.
 #[no_mangle]
 pub extern "C" fn pinuglaw_apply(
     state: &mut [u64],
@@ -63,8 +93,8 @@ pub extern "C" fn pinuglaw_apply(
     host_calls::apply(state, rows, segments, message)
 }
 
-// Takes the snapshot piece in `bytes` for that book. Answers 0 or 01's number; 7, and touches nothing, where fewer than 27 words of state are lent.
-// Otherwise those 27 words are the state afterwards; of a refusal, but for the count that 10 to 14 raise, the words lent.
+// Takes the snapshot piece in `bytes` for that book. Answers 0 or the number that turns it away. Those 27 words are the state afterwards; of a refusal, but for the count
+// that 10 to 14 raise, the words lent.
 #[no_mangle]
 pub extern "C" fn pinuglaw_bootstrap(
     state: &mut [u64],
@@ -80,8 +110,8 @@ pub extern "C" fn pinuglaw_bootstrap(
     host_calls::bootstrap(state, rows, segments, bytes)
 }
 
-// A handshake for the segment that the book is in, into four words; crate `host_handshake` has the layout in specs/Steps.antt. Answers 0; 7, and writes
-// nothing, where fewer than 27 words of state or 4 of a handshake are lent.
+// A handshake for the segment that the book is in, into four words; crate `host_handshake` has the layout in specs/Steps.antt. Before any snapshot it has ended. Answers 0
+// or 7.
 #[no_mangle]
 pub extern "C" fn pinuglaw_handshake(state: &[u64], handshake: &mut [u64]) -> u64
     ensures number { λ r. ⌜ r ≡ handshakeCall (now (state .entry)) (now (handshake .entry)) .number ⌝ }
@@ -91,7 +121,7 @@ pub extern "C" fn pinuglaw_handshake(state: &[u64], handshake: &mut [u64]) -> u6
 }
 
 // Steps a handshake by a message of 21 words. Answers as `pinuglaw_apply` does, 512 where the message was dropped, and 9 where the handshake has ended or is
-// of another segment; 7, and touches nothing, where fewer words are lent. A refusal leaves what it leaves of `pinuglaw_apply`; 17 ends the handshake.
+// of another segment. A refusal leaves what it leaves of `pinuglaw_apply`; 17 ends the handshake.
 #[no_mangle]
 pub extern "C" fn pinuglaw_step(
     state: &mut [u64],
@@ -111,7 +141,7 @@ pub extern "C" fn pinuglaw_step(
 
 // Applies the messages in `messages`, 21 words each, in turn: what as many calls of `pinuglaw_apply` answer and leave, with the number of each message in a
 // word of `answers`, and the words past those untouched. Words past the last whole message are not read. Answers 0; 1, 2 or 3, and touches nothing, where every
-// message would be told so; 7, and touches nothing, where fewer than 27 words of state, or fewer answer words than messages, are lent.
+// message would be told so; then 7, and touches nothing, where there are fewer answer words than messages.
 #[no_mangle]
 pub extern "C" fn pinuglaw_replay(
     state: &mut [u64],
@@ -129,8 +159,8 @@ pub extern "C" fn pinuglaw_replay(
     host_replay::replay(state, rows, segments, messages, answers)
 }
 
-// ---- reads. Each answers 0 or 01's number, and 7, writing nothing, where a part is shorter than its fixed size: 27 words of state, 8 of an estimate, 7 of a
-// volume ahead, 1 for a count or a sequence, 4 for the best prices, 6 for an invalidation, 10 for a segment.
+// ---- reads. Each answers 0 or the number that turns it away, last 7, writing nothing, where its output has no room: 8 words of an estimate, 7 of a volume ahead, 1 for a
+// count or a sequence, 4 for the best prices, 6 for an invalidation, 10 for a segment.
 
 // The last sequence applied, into one word.
 #[no_mangle]
@@ -183,7 +213,7 @@ pub extern "C" fn pinuglaw_segment(
     host_views::segment(state, segments, place, out)
 }
 
-// The orders at a side (0 buy, else sell) and price (an amount's bits), five words each, and their number.
+// The orders at a side (0 buy, 1 sell) and price (an amount's bits), five words each, and their number.
 #[no_mangle]
 pub extern "C" fn pinuglaw_level_queue(
     state: &[u64],

@@ -1,14 +1,13 @@
 -- What the exported calls on a book leave: a refusal leaves every lent word but the counts that 01 names, whatever the words hold; and the state
 -- words afterwards are the state that the rules leave.
 -- Assumes nothing.
-use Prim.Native.Nat.{ℕ, _≤_}
+use Prim.Native.Nat.{ℕ, _/_, _≤_}
 use mathlib.Core.Path.{_≡_, refl, sym, ap₂, _∙_}
 use mathlib.Core.Bool.{Bool, true, false, cond, _||_}
 use mathlib.Core.List.{List}
 use mathlib.Core.Option.{Option, none, some}
-use borrow.Author.Tests.{le-ltb, ltb-false}
 use lib.Dec.{eqb, ltb}
-use lib.ListN.{length}
+use lib.ListN.{length, getD}
 use Rattle.message.specs.declared.L3Message.{L3Message}
 use Rattle.piece.specs.declared.ReadSnapshot.{ReadSnapshot}
 use Rattle.piece.specs.declared.ReadSnapshot.the-variants.{Snapshot, Refused}
@@ -32,7 +31,10 @@ use Rattle.reconstructor_bootstrap.specs.Numbers.{snapshotNumber}
 use Rattle.reconstructor_bootstrap.specs.Snapshot.{pieceAnswer}
 use Rattle.reconstructor_bootstrap.specs.Bootstrap as boot
 use Rattle.host_records.specs.Records.{recordsOf}
-use Rattle.host_words.specs.Block.{bookOf, messageOf, restored, applyNumber, setsStatus}
+use Rattle.reconstructor_answers.specs.Numbers.{answerNumber}
+use Rattle.host_words.specs.Block.{bookOf, messageOf, restored, setsStatus}
+use Rattle.host_boundary.specs.Boundary.{noMessage, noBook, unlessTurned}
+use Rattle.host_boundary.proofs.Passed.{Passed, passes, by-boundary}
 use Rattle.host_calls.specs.Calls.{Call, called, afterApply, afterBootstrap, applyCall, bootstrapCall}
 use Rattle.laws.proofs.Bools.{absurd-bool}
 use Rattle.reconstructor.proofs.Kept.{refusal-counts}
@@ -54,8 +56,8 @@ counted k st = cond (eqb k 10) (raised st 25) (cond (eqb k 17) (raised st 24) st
 abbrev pub refusalLeaves : ℕ → List ℕ → List ℕ → List ℕ → Call
 refusalLeaves k st ws sg = called k (counted k st) ws sg
 
-refused-words : (st : List ℕ) (a : ApplyAnswer) → 27 ≤ length st → acts (applyNumber a) ≡ false
-    → restored st (setsStatus a) (refusedBook (bookOf st) a) ≡ counted (applyNumber a) st
+refused-words : (st : List ℕ) (a : ApplyAnswer) → 27 ≤ length st → acts (answerNumber a) ≡ false
+    → restored st (setsStatus a) (refusedBook (bookOf st) a) ≡ counted (answerNumber a) st
 refused-words st (answers.Applied BookChanged) long h = absurd-bool h
 refused-words st (answers.Applied NoBookEffect) long h = absurd-bool h
 refused-words st (answers.Unusable LimitAboveCeiling) long h = block-same st long
@@ -68,19 +70,19 @@ refused-words st (answers.Invalidated i) long h = absurd-bool h
 refused-words st (answers.AwaitingSnapshot i) long h = raised-skipped st long
 
 -- a message that reaches its turn is applied, or answers 16
-settled-acts : (b : BookReconstructor) (ws : List ℕ) (last : ℕ) (m : L3Message) (o : Option InvalidationKind) → acts (applyNumber (settled b ws last m o .answer)) ≡ true
+settled-acts : (b : BookReconstructor) (ws : List ℕ) (last : ℕ) (m : L3Message) (o : Option InvalidationKind) → acts (answerNumber (settled b ws last m o .answer)) ≡ true
 unfolding settled invalidatedReply accepted acceptedReply
 settled-acts b ws last m (some k) = refl
 settled-acts b ws last m none = go (eventDeed (rowsOf ws (b .rows)) (m .sequence) (m .event) .answer)
   where
-    go : (a : Applied) → acts (applyNumber (answers.Applied a)) ≡ true
+    go : (a : Applied) → acts (answerNumber (answers.Applied a)) ≡ true
     go BookChanged = refl
     go NoBookEffect = refl
 
 gated-words : (st ws sg : List ℕ) (m : L3Message) (o : Option ApplyAnswer) → 27 ≤ length st → acts (afterApply st sg (gated (bookOf st) ws (recordsOf sg) m o) .number) ≡ false
     → afterApply st sg (gated (bookOf st) ws (recordsOf sg) m o) ≡ refusalLeaves (afterApply st sg (gated (bookOf st) ws (recordsOf sg) m o) .number) st ws sg
 unfolding gated refusedReply
-gated-words st ws sg m (some a) long h = ap₂ (λ (l t : List ℕ). called (applyNumber a) l ws t) (refused-words st a long h) (relaid-same sg)
+gated-words st ws sg m (some a) long h = ap₂ (λ (l t : List ℕ). called (answerNumber a) l ws t) (refused-words st a long h) (relaid-same sg)
 gated-words st ws sg m none long h =
     let b = bookOf st in
     absurd-bool (sym (settled-acts b ws (lastOf (b .status)) m (turnRefusal (b .rules) (lineOf (rowsOf ws (b .rows))) (lastOf (b .status)) m)) ∙ h)
@@ -90,20 +92,21 @@ pub applied-words : (st ws sg : List ℕ) (m : L3Message) → 27 ≤ length st �
 unfolding applied
 applied-words st ws sg m long h = gated-words st ws sg m (bookGate ceiling (bookOf st) ws (recordsOf sg) m) long h
 
--- the call, by what is lent
-abbrev applyBy : List ℕ → List ℕ → List ℕ → L3Message → Bool → Bool → Call
-applyBy st ws sg m x y = cond x (called 7 st ws sg) (cond y (called 7 st ws sg) (afterApply st sg (applied ceiling (bookOf st) ws (recordsOf sg) m)))
+-- what a list of so many whole records is too short for
+abbrev pub less : List ℕ → List ℕ → Bool
+less st sg = ltb (length sg / 8) (getD st 14 0)
 
-apply-by : (st ws sg : List ℕ) (m : L3Message) (x y : Bool) → ltb (length st) 27 ≡ x → acts (applyBy st ws sg m x y .number) ≡ false
-    → applyBy st ws sg m x y ≡ refusalLeaves (applyBy st ws sg m x y .number) st ws sg
-apply-by st ws sg m true y e h = refl
-apply-by st ws sg m false true e h = refl
-apply-by st ws sg m false false e h = applied-words st ws sg m (ltb-false (length st) 27 e) h
+module _ (st ws sg m : List ℕ) where
+  -- the call, by what the words are turned away for
+  abbrev applyBy : ℕ → Call
+  applyBy k = unlessTurned k (λ (n : ℕ). called n st ws sg) (afterApply st sg (applied ceiling (bookOf st) ws (recordsOf sg) (messageOf m)))
 
-pub apply-refused : (st ws sg m : List ℕ) → acts (applyCall st ws sg m .number) ≡ false
-    → applyCall st ws sg m ≡ refusalLeaves (applyCall st ws sg m .number) st ws sg
-unfolding applyCall
-apply-refused st ws sg m h = apply-by st ws sg (messageOf m) (ltb (length st) 27) (ltb (length m) 21) refl h
+  pub apply-refused : acts (applyCall st ws sg m .number) ≡ false → applyCall st ws sg m ≡ refusalLeaves (applyCall st ws sg m .number) st ws sg
+  unfolding applyCall
+  apply-refused =
+      by-boundary st (length ws) (less st sg) (ltb (length m) 21) (noMessage m)
+      (λ (k : ℕ). acts (applyBy k .number) ≡ false → applyBy k ≡ refusalLeaves (applyBy k .number) st ws sg)
+      (λ h. refl) (λ h. refl) (λ h. refl) (λ h. refl) (λ h. refl) (λ p. applied-words st ws sg (messageOf m) (p .whole))
 
 -- the state words afterwards are the state that the rules leave
 settled-state : (st ws : List ℕ) (last : ℕ) (m : L3Message) (o : Option InvalidationKind) → 27 ≤ length st
@@ -127,19 +130,19 @@ pub applied-state : (st ws sg : List ℕ) (m : L3Message) → 27 ≤ length st
 unfolding applied
 applied-state st ws sg m long = gated-state st ws sg m (bookGate ceiling (bookOf st) ws (recordsOf sg) m) long
 
-pub apply-state : (st ws sg m : List ℕ) → 27 ≤ length st → 21 ≤ length m
+pub apply-state : (st ws sg m : List ℕ) → Passed st (ltb (length m) 21) (noMessage m)
     → bookOf (applyCall st ws sg m .state) ≡ applied ceiling (bookOf st) ws (recordsOf sg) (messageOf m) .book
 unfolding applyCall
-apply-state st ws sg m long full =
-    rw (le-ltb (length st) 27 long, le-ltb (length m) 21 full) (applied-state st ws sg (messageOf m) long)
+apply-state st ws sg m p =
+    rw (passes st (length ws) (less st sg) (ltb (length m) 21) (noMessage m) p) (applied-state st ws sg (messageOf m) (p .whole))
 
 -- ---- `pinuglaw_bootstrap`: any number but 0 is a refusal's, and 10 to 14 raise the count in word 26
 
 abbrev pub snapshotLeaves : ℕ → List ℕ → List ℕ → List ℕ → Call
-snapshotLeaves k st ws sg = called k (cond (ltb k 10) st (raised st 26)) ws sg
+snapshotLeaves k st ws sg = called k (cond (ltb k 10 || ltb 14 k) st (raised st 26)) ws sg
 
 rejected-words : (st : List ℕ) (x : SnapshotAnswer) → 27 ≤ length st → eqb (snapshotNumber x) 0 ≡ false
-    → restored st (eqb (snapshotNumber x) 0) (boot.refusedBook x (bookOf st)) ≡ cond (ltb (snapshotNumber x) 10) st (raised st 26)
+    → restored st (eqb (snapshotNumber x) 0) (boot.refusedBook x (bookOf st)) ≡ cond (ltb (snapshotNumber x) 10 || ltb 14 (snapshotNumber x)) st (raised st 26)
 rejected-words st Bootstrapped long h = absurd-bool h
 rejected-words st (Unusable LimitAboveCeiling) long h = block-same st long
 rejected-words st (Unusable LentTooShort) long h = block-same st long
@@ -162,19 +165,22 @@ module _ (st ws sg bytes : List ℕ) where
   abbrev left : Option SnapshotAnswer → ReadSnapshot → Call
   left o r = afterBootstrap st sg (boot.settled o (bookOf st) ws (recordsOf sg) (boot.taken r (bookOf st) ws (recordsOf sg) bytes))
 
-  abbrev leftBy : Bool → Option SnapshotAnswer → ReadSnapshot → Call
-  leftBy x o r = cond x (called 7 st ws sg) (left o r)
+  left-refused : (o : Option SnapshotAnswer) (r : ReadSnapshot) → 27 ≤ length st → eqb (left o r .number) 0 ≡ false
+      → left o r ≡ snapshotLeaves (left o r .number) st ws sg
+  left-refused (some a) r long h = rejected-leaves st ws sg a long h
+  left-refused none (Refused p) long h = rejected-leaves st ws sg (pieceAnswer p) long h
+  left-refused none (Snapshot s) long h = absurd-bool h
 
-  left-refused : (x : Bool) (o : Option SnapshotAnswer) (r : ReadSnapshot) → ltb (length st) 27 ≡ x → eqb (leftBy x o r .number) 0 ≡ false
-      → leftBy x o r ≡ snapshotLeaves (leftBy x o r .number) st ws sg
-  left-refused true o r e h = refl
-  left-refused false (some a) r e h = rejected-leaves st ws sg a (ltb-false (length st) 27 e) h
-  left-refused false none (Refused p) e h = rejected-leaves st ws sg (pieceAnswer p) (ltb-false (length st) 27 e) h
-  left-refused false none (Snapshot s) e h = absurd-bool h
+  abbrev leftBy : ℕ → Call
+  leftBy k = unlessTurned k (λ (n : ℕ). called n st ws sg) (left (refusalOf ceiling (bookOf st) ws (recordsOf sg) bytes) (readSnapshot bytes))
 
   pub bootstrap-refused : eqb (bootstrapCall st ws sg bytes .number) 0 ≡ false → bootstrapCall st ws sg bytes ≡ snapshotLeaves (bootstrapCall st ws sg bytes .number) st ws sg
   unfolding bootstrapCall boot.bootstrapped
-  bootstrap-refused h = left-refused (ltb (length st) 27) (refusalOf ceiling (bookOf st) ws (recordsOf sg) bytes) (readSnapshot bytes) refl h
+  bootstrap-refused =
+      by-boundary st (length ws) (less st sg) false false
+      (λ (k : ℕ). eqb (leftBy k .number) 0 ≡ false → leftBy k ≡ snapshotLeaves (leftBy k .number) st ws sg)
+      (λ h. refl) (λ h. refl) (λ h. refl) (λ h. refl) (λ h. refl)
+      (λ p. left-refused (refusalOf ceiling (bookOf st) ws (recordsOf sg) bytes) (readSnapshot bytes) (p .whole))
 
   module _ (long : 27 ≤ length st) where
     rejected-state : (x : SnapshotAnswer) → bookOf (afterBootstrap st sg (boot.refused x (bookOf st) ws (recordsOf sg)) .state) ≡ boot.refusedBook x (bookOf st)
@@ -188,6 +194,8 @@ module _ (st ws sg bytes : List ℕ) where
     left-state none (Refused e) = rejected-state (pieceAnswer e)
     left-state none (Snapshot s) = block-back st true _ _ _ _ long (λ e. absurd-bool e)
 
-    pub bootstrap-state : bookOf (bootstrapCall st ws sg bytes .state) ≡ boot.bootstrapped ceiling (bookOf st) ws (recordsOf sg) bytes .book
+    pub bootstrap-state : noBook st ≡ false → bookOf (bootstrapCall st ws sg bytes .state) ≡ boot.bootstrapped ceiling (bookOf st) ws (recordsOf sg) bytes .book
     unfolding bootstrapCall boot.bootstrapped
-    bootstrap-state = rw (le-ltb (length st) 27 long) (left-state (refusalOf ceiling (bookOf st) ws (recordsOf sg) bytes) (readSnapshot bytes))
+    bootstrap-state book =
+        rw (passes st (length ws) (less st sg) false false (record { whole = long; full = refl; right = refl; book = book }))
+        (left-state (refusalOf ceiling (bookOf st) ws (recordsOf sg) bytes) (readSnapshot bytes))

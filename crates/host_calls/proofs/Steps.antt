@@ -25,7 +25,10 @@ use Rattle.reconstructor_handshake.specs.declared.StepAnswer.{StepAnswer}
 use Rattle.reconstructor_handshake.specs.declared.StepAnswer.the-variants.{Stepped, OtherSegment}
 use Rattle.reconstructor_handshake.specs.Step.{otherSegment, drops, with, after, decided, dropped, stepRefusal, settledStep, stepped, StepParts}
 use Rattle.host_records.specs.Records.{recordsOf, relaid}
-use Rattle.host_words.specs.Block.{bookOf, messageOf, restored, applyNumber}
+use Rattle.reconstructor_answers.specs.Numbers.{answerNumber}
+use Rattle.host_words.specs.Block.{bookOf, messageOf, restored}
+use Rattle.host_boundary.specs.Boundary.{noMessage, noHandshake, unlessTurned}
+use Rattle.host_boundary.proofs.Passed.{Passed, passes, by-boundary}
 use Rattle.host_handshake.specs.Steps.{handshakeOf, handshakeLeft, stepSets}
 use Rattle.host_calls.specs.Calls.{Call, StepCall, stepCalled, afterStep, stepCall}
 use Rattle.laws.proofs.Bools.{absurd-bool, or-no}
@@ -33,8 +36,8 @@ use Rattle.host_records.proofs.Records.{relaid-same}
 use Rattle.host_words.proofs.Blocks.{block-same, raised, raised-dropped}
 use Rattle.host_words.proofs.RoundTrip.{block-back}
 use Rattle.host_handshake.proofs.Words.{handshake-back, handshake-same}
-use Rattle.host_words.proofs.Lent.{lent-three}
-use Rattle.host_calls.proofs.Blocks.{acts, counted, applied-words, applied-state}
+use Rattle.host_words.proofs.Lent.{lent-two}
+use Rattle.host_calls.proofs.Blocks.{acts, counted, applied-words, less, applied-state}
 
 -- a number is a refusal's unless it is that of a message applied, dropped or invalidating
 abbrev pub stepActs : ℕ → Bool
@@ -47,20 +50,20 @@ ended k hs = cond (eqb k 17) (handshakeLeft hs (with (handshakeOf hs) true (hand
 abbrev pub stepLeaves : ℕ → List ℕ → List ℕ → List ℕ → List ℕ → StepCall
 stepLeaves k st ws sg hs = stepCalled k (counted k st) ws sg (ended k hs)
 
-after-words : (hs : List ℕ) (a : ApplyAnswer) → 4 ≤ length hs → acts (applyNumber a) ≡ false → handshakeLeft hs (after (handshakeOf hs) a) ≡ ended (applyNumber a) hs
-after-words hs (answers.Applied BookChanged) long h = absurd-bool h
-after-words hs (answers.Applied NoBookEffect) long h = absurd-bool h
-after-words hs (answers.Unusable LimitAboveCeiling) long h = handshake-same hs long
-after-words hs (answers.Unusable LentTooShort) long h = handshake-same hs long
-after-words hs (answers.Unusable MalformedBook) long h = handshake-same hs long
-after-words hs answers.AmountOutOfRange long h = handshake-same hs long
-after-words hs answers.WrongProduct long h = handshake-same hs long
-after-words hs answers.NotBootstrapped long h = handshake-same hs long
-after-words hs (answers.Invalidated i) long h = absurd-bool h
-after-words hs (answers.AwaitingSnapshot i) long h = refl
+after-words : (hs : List ℕ) (a : ApplyAnswer) → 4 ≤ length hs → noHandshake hs ≡ false → acts (answerNumber a) ≡ false → handshakeLeft hs (after (handshakeOf hs) a) ≡ ended (answerNumber a) hs
+after-words hs (answers.Applied BookChanged) long bit h = absurd-bool h
+after-words hs (answers.Applied NoBookEffect) long bit h = absurd-bool h
+after-words hs (answers.Unusable LimitAboveCeiling) long bit h = handshake-same hs long bit
+after-words hs (answers.Unusable LentTooShort) long bit h = handshake-same hs long bit
+after-words hs (answers.Unusable MalformedBook) long bit h = handshake-same hs long bit
+after-words hs answers.AmountOutOfRange long bit h = handshake-same hs long bit
+after-words hs answers.WrongProduct long bit h = handshake-same hs long bit
+after-words hs answers.NotBootstrapped long bit h = handshake-same hs long bit
+after-words hs (answers.Invalidated i) long bit h = absurd-bool h
+after-words hs (answers.AwaitingSnapshot i) long bit h = refl
 
 -- no answer of `apply` has a drop's number
-not-dropped : (a : ApplyAnswer) → eqb (applyNumber a) 512 ≡ false
+not-dropped : (a : ApplyAnswer) → eqb (answerNumber a) 512 ≡ false
 not-dropped (answers.Applied BookChanged) = refl
 not-dropped (answers.Applied NoBookEffect) = refl
 not-dropped (answers.Unusable LimitAboveCeiling) = refl
@@ -73,7 +76,7 @@ not-dropped (answers.Invalidated i) = refl
 not-dropped (answers.AwaitingSnapshot i) = refl
 
 -- a step on words that are long enough, by what refuses it and whether it drops
-module _ (st ws sg hs : List ℕ) (m : L3Message) (long : 27 ≤ length st) (full : 4 ≤ length hs) where
+module _ (st ws sg hs : List ℕ) (m : L3Message) (long : 27 ≤ length st) (full : 4 ≤ length hs) (bit : noHandshake hs ≡ false) where
   abbrev gate : Option StateError → Bool → Bool → Option StepAnswer
   gate o x y = first o (λ (e : StateError). Stepped (answers.Unusable e)) (check x OtherSegment (check y (Stepped answers.AmountOutOfRange) none))
 
@@ -87,7 +90,7 @@ module _ (st ws sg hs : List ℕ) (m : L3Message) (long : 27 ≤ length st) (ful
 
   -- a refusal that no `apply` has decided
   kept : (k : ℕ) → stepCalled k (restored st false (bookOf st)) ws (relaid sg (recordsOf sg)) (handshakeLeft hs (handshakeOf hs)) ≡ stepCalled k st ws sg hs
-  kept k = rw (block-same st long, relaid-same sg, handshake-same hs full)
+  kept k = rw (block-same st long, relaid-same sg, handshake-same hs full bit)
 
   left-refused : (o : Option StateError) (x y d : Bool) → stepActs (afterStep st sg hs (left (gate o x y) d) .number) ≡ false
       → afterStep st sg hs (left (gate o x y) d) ≡ stepLeaves (afterStep st sg hs (left (gate o x y) d) .number) st ws sg hs
@@ -100,9 +103,9 @@ module _ (st ws sg hs : List ℕ) (m : L3Message) (long : 27 ≤ length st) (ful
   left-refused none false false true h = absurd-bool h
   left-refused none false false false h =
       let p = applied ceiling (bookOf st) ws (recordsOf sg) m in
-      let refused = or-no (acts (applyNumber (p .answer))) (eqb (applyNumber (p .answer)) 512) h .0 in
+      let refused = or-no (acts (answerNumber (p .answer))) (eqb (answerNumber (p .answer)) 512) h .0 in
       ap (λ (c : Call). stepCalled (c .number) (c .state) (c .rows) (c .segments) (handshakeLeft hs (after (handshakeOf hs) (p .answer)))) (applied-words st ws sg m long refused) ∙
-      ap (stepCalled (applyNumber (p .answer)) (counted (applyNumber (p .answer)) st) ws sg) (after-words hs (p .answer) full refused)
+      ap (stepCalled (answerNumber (p .answer)) (counted (answerNumber (p .answer)) st) ws sg) (after-words hs (p .answer) full bit refused)
 
   left-dropped : (o : Option StateError) (x y d : Bool) → eqb (afterStep st sg hs (left (gate o x y) d) .number) 512 ≡ true
       → afterStep st sg hs (left (gate o x y) d) ≡ stepCalled 512 (raised st 23) ws sg hs
@@ -112,7 +115,7 @@ module _ (st ws sg hs : List ℕ) (m : L3Message) (long : 27 ≤ length st) (ful
   left-dropped (some MalformedBook) x y d h = absurd-bool (sym h)
   left-dropped none true y d h = absurd-bool (sym h)
   left-dropped none false true d h = absurd-bool (sym h)
-  left-dropped none false false true h = rw (raised-dropped st long, relaid-same sg, handshake-same hs full)
+  left-dropped none false false true h = rw (raised-dropped st long, relaid-same sg, handshake-same hs full bit)
   left-dropped none false false false h = absurd-bool (sym h ∙ not-dropped (applied ceiling (bookOf st) ws (recordsOf sg) m .answer))
 
   left-state : (o : Option StepAnswer) (d : Bool) → bookOf (afterStep st sg hs (left o d) .state) ≡ left o d .book
@@ -141,43 +144,47 @@ module _ (st ws sg hs m : List ℕ) where
   abbrev old : Bool
   old = drops (bookOf st .«product_id») (viewOf (bookOf st) ws (recordsOf sg) .startSeq) (messageOf m)
 
+  -- what is asked of the other inputs
   abbrev short : Bool
-  short = ltb (length st) 27 || (ltb (length hs) 4 || ltb (length m) 21)
+  short = ltb (length hs) 4 || ltb (length m) 21
 
-  abbrev leftBy : Bool → StepCall
-  leftBy x =
-      cond x (stepCalled 7 st ws sg hs) (afterStep st sg hs (stepped ceiling (handshakeOf hs) (bookOf st) ws (recordsOf sg) (messageOf m)))
+  abbrev wrong : Bool
+  wrong = noHandshake hs || noMessage m
 
-  by-refused : (x : Bool) → short ≡ x → stepActs (leftBy x .number) ≡ false → leftBy x ≡ stepLeaves (leftBy x .number) st ws sg hs
+  abbrev leftBy : ℕ → StepCall
+  leftBy k =
+      unlessTurned k (λ (n : ℕ). stepCalled n st ws sg hs) (afterStep st sg hs (stepped ceiling (handshakeOf hs) (bookOf st) ws (recordsOf sg) (messageOf m)))
+
+  by-refused : Passed st short wrong → stepActs (leftBy 0 .number) ≡ false → leftBy 0 ≡ stepLeaves (leftBy 0 .number) st ws sg hs
   unfolding stepped stepRefusal
-  by-refused true e h = refl
-  by-refused false e h =
-      let lent = lent-three st 27 hs 4 m 21 e in
-      left-refused st ws sg hs (messageOf m) (lent .0) (lent .1 .0) (stateOf st ws sg) other far old h
+  by-refused p h =
+      left-refused st ws sg hs (messageOf m) (p .whole) (lent-two hs 4 m 21 (p .full) .0) (or-no (noHandshake hs) (noMessage m) (p .right) .0) (stateOf st ws sg) other far old h
 
   pub step-refused : stepActs (stepCall st ws sg hs m .number) ≡ false → stepCall st ws sg hs m ≡ stepLeaves (stepCall st ws sg hs m .number) st ws sg hs
   unfolding stepCall
-  step-refused h = by-refused short refl h
+  step-refused =
+      by-boundary st (length ws) (less st sg) short wrong
+      (λ (k : ℕ). stepActs (leftBy k .number) ≡ false → leftBy k ≡ stepLeaves (leftBy k .number) st ws sg hs)
+      (λ h. refl) (λ h. refl) (λ h. refl) (λ h. refl) (λ h. refl) by-refused
 
-  by-dropped : (x : Bool) → short ≡ x → eqb (leftBy x .number) 512 ≡ true → leftBy x ≡ stepCalled 512 (raised st 23) ws sg hs
+  by-dropped : Passed st short wrong → eqb (leftBy 0 .number) 512 ≡ true → leftBy 0 ≡ stepCalled 512 (raised st 23) ws sg hs
   unfolding stepped stepRefusal
-  by-dropped true e h = absurd-bool (sym h)
-  by-dropped false e h =
-      let lent = lent-three st 27 hs 4 m 21 e in
-      left-dropped st ws sg hs (messageOf m) (lent .0) (lent .1 .0) (stateOf st ws sg) other far old h
+  by-dropped p h =
+      left-dropped st ws sg hs (messageOf m) (p .whole) (lent-two hs 4 m 21 (p .full) .0) (or-no (noHandshake hs) (noMessage m) (p .right) .0) (stateOf st ws sg) other far old h
 
   pub step-dropped : eqb (stepCall st ws sg hs m .number) 512 ≡ true → stepCall st ws sg hs m ≡ stepCalled 512 (raised st 23) ws sg hs
   unfolding stepCall
-  step-dropped h = by-dropped short refl h
+  step-dropped =
+      by-boundary st (length ws) (less st sg) short wrong (λ (k : ℕ). eqb (leftBy k .number) 512 ≡ true → leftBy k ≡ stepCalled 512 (raised st 23) ws sg hs)
+      (λ h. absurd-bool (sym h)) (λ h. absurd-bool (sym h)) (λ h. absurd-bool (sym h)) (λ h. absurd-bool (sym h)) (λ h. absurd-bool (sym h)) by-dropped
 
-  module _ (lent : short ≡ false) where
+  module _ (p : Passed st short wrong) where
     pub step-state : bookOf (stepCall st ws sg hs m .state) ≡ stepped ceiling (handshakeOf hs) (bookOf st) ws (recordsOf sg) (messageOf m) .book
     unfolding stepCall stepped
     step-state =
-        let sizes = lent-three st 27 hs 4 m 21 lent in
-        rw lent
-        (left-state st ws sg hs (messageOf m) (sizes .0) (sizes .1 .0) (stepRefusal ceiling (bookOf st .rules) (lengthsOf ws (recordsOf sg)) (broken (bookOf st) ws) (viewOf (bookOf st) ws (recordsOf sg)) (segmentOf (bookOf st)) (handshakeOf hs) (messageOf m)) old)
+        rw (passes st (length ws) (less st sg) short wrong p)
+        (left-state st ws sg hs (messageOf m) (p .whole) (lent-two hs 4 m 21 (p .full) .0) (or-no (noHandshake hs) (noMessage m) (p .right) .0) (stepRefusal ceiling (bookOf st .rules) (lengthsOf ws (recordsOf sg)) (broken (bookOf st) ws) (viewOf (bookOf st) ws (recordsOf sg)) (segmentOf (bookOf st)) (handshakeOf hs) (messageOf m)) old)
 
     pub step-handshake : handshakeOf (stepCall st ws sg hs m .handshake) ≡ stepped ceiling (handshakeOf hs) (bookOf st) ws (recordsOf sg) (messageOf m) .handshake
     unfolding stepCall
-    step-handshake = rw lent (handshake-back hs _)
+    step-handshake = rw (passes st (length ws) (less st sg) short wrong p) (handshake-back hs _)

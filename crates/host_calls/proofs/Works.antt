@@ -18,12 +18,13 @@ use Rattle.reconstructor_bootstrap.specs.Bootstrap.{bootstrapped}
 use Rattle.reconstructor_bootstrap.specs.ByValue as boot
 use Rattle.reconstructor_handshake.specs.declared.Handshake.{Handshake}
 use Rattle.reconstructor_handshake.specs.declared.StepWork.{StepWork}
-use Rattle.reconstructor_handshake.specs.Step.{stepped}
+use Rattle.reconstructor_handshake.specs.Step.{stepNumber, stepped}
 use Rattle.reconstructor_handshake.specs.ByValue.{StepWorked, stepWorked, steppedTo, relistedStep}
 use Rattle.host_records.specs.Records.{recordsOf, relaid}
 use Rattle.reconstructor_bootstrap.specs.Numbers.{snapshotNumber}
-use Rattle.host_words.specs.Block.{restored, applyNumber, setsStatus}
-use Rattle.host_handshake.specs.Steps.{handshakeLeft, stepWord, stepSets}
+use Rattle.reconstructor_answers.specs.Numbers.{answerNumber}
+use Rattle.host_words.specs.Block.{restored, setsStatus}
+use Rattle.host_handshake.specs.Steps.{handshakeLeft, stepSets}
 use Rattle.host_calls.specs.Calls.{called, afterApply, afterBootstrap, stepCalled, afterStep}
 use Rattle.reconstructor.proofs.ByValue.{applied-by-value}
 use Rattle.reconstructor_bootstrap.proofs.ByValue.{bootstrapped-by-value}
@@ -36,7 +37,7 @@ module _ (st ws sg : List ℕ) (b : BookReconstructor) (g : Segment) (at : g ≡
 
   pub apply-leaves : (m : L3Message) (w : Work) (vs tg : List ℕ) → worked w vs ≡ appliedTo ceiling b ws (length sg / 8) g m
       → tg ≡ relaid sg (set records (b .segments - 1) (w .segment))
-      → called (applyNumber (w .answer)) (restored st (setsStatus (w .answer)) (w .book)) vs tg ≡ afterApply st sg (applied ceiling b ws records m)
+      → called (answerNumber (w .answer)) (restored st (setsStatus (w .answer)) (w .book)) vs tg ≡ afterApply st sg (applied ceiling b ws records m)
   apply-leaves m w vs tg e q =
       rw q
       (ap (λ (x : Worked). afterApply st sg (relisted records (b .segments) x)) (e ∙ ap₂ (λ (n : ℕ) (x : Segment). appliedTo ceiling b ws n x m) (sym (length-records sg)) at)
@@ -44,7 +45,7 @@ module _ (st ws sg : List ℕ) (b : BookReconstructor) (g : Segment) (at : g ≡
 
   pub step-leaves : (h : Handshake) (hs : List ℕ) (m : L3Message) (w : StepWork) (vs tg : List ℕ) → stepWorked w vs ≡ steppedTo ceiling h b ws (length sg / 8) g m
       → tg ≡ relaid sg (set records (b .segments - 1) (w .segment))
-      → stepCalled (stepWord (w .answer)) (restored st (stepSets (w .answer)) (w .book)) vs tg (handshakeLeft hs (w .handshake)) ≡ afterStep st sg hs (stepped ceiling h b ws records m)
+      → stepCalled (stepNumber (w .answer)) (restored st (stepSets (w .answer)) (w .book)) vs tg (handshakeLeft hs (w .handshake)) ≡ afterStep st sg hs (stepped ceiling h b ws records m)
   step-leaves h hs m w vs tg e q =
       rw q
       (ap (λ (x : StepWorked). afterStep st sg hs (relistedStep records (b .segments) x)) (e ∙ ap₂ (λ (n : ℕ) (x : Segment). steppedTo ceiling h b ws n x m) (sym (length-records sg)) at)

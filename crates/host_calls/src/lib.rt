@@ -1,13 +1,16 @@
 // The calls on a book whose state, message, handshake and segment list are words: those that `host` exports. Each does on words what the call it is named after
 // does on a slice of records, by the same work.
+use host_boundary::boundary;
+use host_boundary::list_short;
+use host_boundary::no_handshake;
+use host_boundary::no_message;
+use host_boundary::own_boundary;
 use host_handshake::load_handshake;
-use host_handshake::step_number;
 use host_handshake::step_sets_status;
 use host_handshake::store_handshake;
 use host_records::last_record;
 use host_records::put_record;
 use host_records::rewrite_record;
-use host_words::apply_number;
 use host_words::load_book;
 use host_words::load_message;
 use host_words::sets_status;
@@ -20,11 +23,16 @@ ghost use Rattle.host_calls.specs.Calls.{called, applyCall, bootstrapCal
 pub fn apply(state: &mut [u64], rows: &mut [u64], segments: &mut [u64], message: &[u64]) -> u64
     ensures { λ r. ⌜ called r (now (state .exit)) (now (rows .exit)) (now (segments .exit)) ≡ applyCall (now (state .entry)) (now (rows .entry)) (now (segments .entry)) (now (message .entry)) ⌝ }
 {
-    if state.len() < 27 {
-        return 7;
-    }
-    if message.len() < 21 {
-        return 7;
+    let less = list_short(state, segments.len());
+    let stop = boundary(
+        state,
+        rows.len(),
+        less,
+        message.len() < 21,
+        no_message(message),
+    );
+    if stop != 0 {
+        return stop;
     }
     let book = load_book(state);
     let count = book.segments;
@@ -34,14 +42,16 @@ pub fn apply(state: &mut [u64], rows: &mut [u64], segments: &mut [u64], message:
     rewrite_record(segments, count, work.segment);
     let answer = work.answer;
     store_book(state, work.book, sets_status(answer));
-    apply_number(answer)
+    answer.number()
 }
 
 pub fn bootstrap(state: &mut [u64], rows: &mut [u64], segments: &mut [u64], bytes: &[u8]) -> u64
     ensures { λ r. ⌜ called r (now (state .exit)) (now (rows .exit)) (now (segments .exit)) ≡ bootstrapCall (now (state .entry)) (now (rows .entry)) (now (segments .entry)) (now (bytes .entry)) ⌝ }
 {
-    if state.len() < 27 {
-        return 7;
+    let less = list_short(state, segments.len());
+    let stop = boundary(state, rows.len(), less, false, false);
+    if stop != 0 {
+        return stop;
     }
     let book = load_book(state);
     let count = book.segments;
@@ -59,7 +69,11 @@ pub fn bootstrap(state: &mut [u64], rows: &mut [u64], segments: &mut [u64], byte
 pub fn new_handshake(state: &[u64], handshake: &mut [u64]) -> u64
     ensures { λ r. ⌜ answered r (now (handshake .exit)) ≡ handshakeCall (now (state .entry)) (now (handshake .entry)) ⌝ }
 {
-    if (state.len() < 27) | (handshake.len() < 4) {
+    let stop = own_boundary(state);
+    if stop != 0 {
+        return stop;
+    }
+    if handshake.len() < 4 {
         return 7;
     }
     store_handshake(handshake, Handshake::new(load_book(state)));
@@ -75,8 +89,12 @@ pub fn step(
 ) -> u64
     ensures { λ r. ⌜ stepCalled r (now (state .exit)) (now (rows .exit)) (now (segments .exit)) (now (handshake .exit)) ≡ stepCall (now (state .entry)) (now (rows .entry)) (now (segments .entry)) (now (handshake .entry)) (now (message .entry)) ⌝ }
 {
-    if (state.len() < 27) | ((handshake.len() < 4) | (message.len() < 21)) {
-        return 7;
+    let less = list_short(state, segments.len());
+    let short = (handshake.len() < 4) | (message.len() < 21);
+    let wrong = no_handshake(handshake) | no_message(message);
+    let stop = boundary(state, rows.len(), less, short, wrong);
+    if stop != 0 {
+        return stop;
     }
     let book = load_book(state);
     let count = book.segments;
@@ -88,5 +106,5 @@ pub fn step(
     let answer = work.answer;
     store_book(state, work.book, step_sets_status(answer));
     store_handshake(handshake, work.handshake);
-    step_number(answer)
+    answer.number()
 }

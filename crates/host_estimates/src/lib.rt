@@ -1,7 +1,11 @@
 // The queue estimates of a book whose state is words: those that `host` exports.
+use host_boundary::boundary;
+use host_boundary::no_bit;
+use host_boundary::no_estimate;
 use host_reads::load_estimate;
 use host_reads::store_ahead;
 use host_reads::store_estimate;
+use host_reads::unwritten;
 use host_words::load_book;
 use host_words::load_side;
 use host_words::signed;
@@ -20,16 +24,15 @@ pub fn queue_estimate(
 ) -> u64
     ensures { λ r. ⌜ estimateCalled r (now (ahead .exit)) (now (estimate .exit)) ≡ estimateCall (now (state .entry)) (now (rows .entry)) side price (now (ahead .entry)) (now (estimate .entry)) ⌝ }
 {
-    if (state.len() < 27) | (estimate.len() < 8) {
-        return 7;
+    let stop = boundary(state, rows.len(), false, false, no_bit(side));
+    if stop != 0 {
+        return stop;
     }
-    let answer = queue::queue_estimate(
-        load_book(state),
-        rows,
-        load_side(side),
-        signed(price),
-        ahead,
-    );
+    let book = load_book(state);
+    if estimate.len() < 8 {
+        return unwritten(book, rows, false);
+    }
+    let answer = queue::queue_estimate(book, rows, load_side(side), signed(price), ahead);
     store_estimate(estimate, answer)
 }
 
@@ -42,8 +45,9 @@ pub fn queue_estimate_own(
 ) -> u64
     ensures { λ r. ⌜ answered r (now (estimate .exit)) ≡ ownCall (now (state .entry)) (now (rows .entry)) «id_high» «id_low» (now (estimate .entry)) ⌝ }
 {
-    if (state.len() < 27) | (estimate.len() < 8) {
-        return 7;
+    let stop = boundary(state, rows.len(), false, false, false);
+    if stop != 0 {
+        return stop;
     }
     let id = OrderId {
         high: id_high,
@@ -62,8 +66,10 @@ pub fn volume_ahead(
 ) -> u64
     ensures { λ r. ⌜ answered r (now (out .exit)) ≡ aheadCall (now (state .entry)) (now (rows .entry)) (now (estimate .entry)) (now (ahead .entry)) (now (out .entry)) ⌝ }
 {
-    if (state.len() < 27) | ((estimate.len() < 8) | (out.len() < 7)) {
-        return 7;
+    let short = estimate.len() < 8;
+    let stop = boundary(state, rows.len(), false, short, no_estimate(estimate));
+    if stop != 0 {
+        return stop;
     }
     let answer = queue::volume_ahead(load_book(state), rows, load_estimate(estimate), ahead);
     store_ahead(out, answer)

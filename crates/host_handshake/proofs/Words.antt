@@ -5,35 +5,31 @@ use mathlib.Core.Path.{_≡_, refl, sym, ap}
 use mathlib.Core.Bool.{Bool, true, false, not, cond}
 use mathlib.Core.List.{List, [], _∷_}
 use native.Mathlib.Omega.{arith}
-use borrow.Author.Tests.{eqb-true}
-use lib.Dec.{eqb}
+use borrow.Author.Tests.{eqb-true, eqb-false, ltb-false}
+use lib.Dec.{eqb, ltb}
 use lib.ListN.{length, getD}
 use Rattle.reconstructor_handshake.specs.declared.Handshake.{Handshake}
 use Rattle.host_handshake.specs.Steps.{handshakeOf, endedWord, handshakeLeft}
 
-ended-back : (was : ℕ) (ended : Bool) → not (eqb (endedWord was ended) 0) ≡ ended
-ended-back was false = refl
-ended-back was true = go (eqb was 0) refl
-  where
-    go : (x : Bool) → eqb was 0 ≡ x → not (eqb (cond x 1 was) 0) ≡ true
-    go true e = refl
-    go false e = ap not e
+ended-back : (ended : Bool) → not (eqb (endedWord ended) 0) ≡ ended
+ended-back false = refl
+ended-back true = refl
 
 pub handshake-back : (ws : List ℕ) (h : Handshake) → handshakeOf (handshakeLeft ws h) ≡ h
 unfolding handshakeOf handshakeLeft
-handshake-back ws h = rw (ended-back (getD ws 2 0) (h .ended))
+handshake-back ws h = rw (ended-back (h .ended))
 
-ended-same : (was : ℕ) → endedWord was (not (eqb was 0)) ≡ was
-ended-same was = go (eqb was 0) refl
+ended-same : (was : ℕ) → ltb 1 was ≡ false → endedWord (not (eqb was 0)) ≡ was
+ended-same was bit = go (eqb was 0) refl
   where
-    go : (x : Bool) → eqb was 0 ≡ x → cond (not x) (cond x 1 was) 0 ≡ was
+    go : (x : Bool) → eqb was 0 ≡ x → cond (not x) 1 0 ≡ was
     go true e = sym (eqb-true was 0 e)
-    go false e = refl
+    go false e = let n = eqb-false was 0 e in let m = ltb-false 1 was bit in omega (arith, n, m)
 
-pub handshake-same : (ws : List ℕ) → 4 ≤ length ws → handshakeLeft ws (handshakeOf ws) ≡ ws
+pub handshake-same : (ws : List ℕ) → 4 ≤ length ws → ltb 1 (getD ws 2 0) ≡ false → handshakeLeft ws (handshakeOf ws) ≡ ws
 unfolding handshakeOf handshakeLeft
-handshake-same [] h = absurd (omega (arith, h))
-handshake-same (a ∷ []) h = absurd (omega (arith, h))
-handshake-same (a ∷ b ∷ []) h = absurd (omega (arith, h))
-handshake-same (a ∷ b ∷ e ∷ []) h = absurd (omega (arith, h))
-handshake-same (a ∷ b ∷ e ∷ n ∷ ws) h = ap (λ x. a ∷ b ∷ x ∷ n ∷ ws) (ended-same e)
+handshake-same [] h bit = absurd (omega (arith, h))
+handshake-same (a ∷ []) h bit = absurd (omega (arith, h))
+handshake-same (a ∷ b ∷ []) h bit = absurd (omega (arith, h))
+handshake-same (a ∷ b ∷ e ∷ []) h bit = absurd (omega (arith, h))
+handshake-same (a ∷ b ∷ e ∷ n ∷ ws) h bit = ap (λ x. a ∷ b ∷ x ∷ n ∷ ws) (ended-same e bit)

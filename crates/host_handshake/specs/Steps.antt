@@ -1,4 +1,4 @@
--- A handshake from words and as words, and the number of a step's answer. Any words are some handshake.
+-- A handshake from words and as words. Any words are read as some handshake; those that no handshake is written as are turned away before (crate `host_boundary`).
 use Prim.Native.Nat.{ℕ}
 use mathlib.Core.Bool.{Bool, true, false, not, cond}
 use mathlib.Core.List.{List, _∷_}
@@ -7,11 +7,11 @@ use lib.ListN.{getD, drop}
 use Rattle.reconstructor_handshake.specs.declared.Handshake.{Handshake}
 use Rattle.reconstructor_handshake.specs.declared.StepAnswer.{StepAnswer}
 use Rattle.reconstructor_handshake.specs.declared.StepAnswer.the-variants.{Stepped, Dropped, OtherSegment}
-use Rattle.host_words.specs.Block.{applyNumber, setsStatus}
+use Rattle.host_words.specs.Block.{setsStatus}
 
 -- ---- A handshake: four words
 --   0, 1  its segment's name: the reconstructor's number, and the place in the list
---   2     0 until it has ended, then any other word (1 when written)
+--   2     1 once it has ended, before that 0
 --   3     the number of messages applied
 
 unfoldable pub handshakeOf : List ℕ → Handshake
@@ -22,22 +22,14 @@ handshakeOf ws =
       applied = getD ws 3 0;
     }
 
--- word 2 afterwards, `was` before
-abbrev pub endedWord : ℕ → Bool → ℕ
-endedWord was ended = cond ended (cond (eqb was 0) 1 was) 0
+abbrev pub endedWord : Bool → ℕ
+endedWord ended = cond ended 1 0
 
 -- what a call leaves of the words lent for a handshake; those past 3 stay
 unfoldable pub handshakeLeft : List ℕ → Handshake → List ℕ
-handshakeLeft ws h =
-    h .segment .number ∷ h .segment .place ∷ endedWord (getD ws 2 0) (h .ended) ∷ h .applied ∷ drop 4 ws
+handshakeLeft ws h = h .segment .number ∷ h .segment .place ∷ endedWord (h .ended) ∷ h .applied ∷ drop 4 ws
 
 -- ---- An answer
-
--- as `apply` is answered, and 512 for a message that is dropped
-abbrev pub stepWord : StepAnswer → ℕ
-stepWord (Stepped a) = applyNumber a
-stepWord Dropped = 512
-stepWord OtherSegment = 9
 
 -- whether the status is set: only where `apply` sets it
 abbrev pub stepSets : StepAnswer → Bool

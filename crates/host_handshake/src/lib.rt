@@ -1,5 +1,4 @@
-// A handshake as words, and the number of a step's answer. specs/Steps.antt has the layout.
-use host_words::apply_number;
+// A handshake as words. specs/Steps.antt has the layout.
 use host_words::put;
 use host_words::sets_status;
 use reconstructor_handshake::Handshake;
@@ -8,9 +7,9 @@ use reconstructor_segments::SegmentName;
 ghost use mathlib.Core.Path.{_≡_};
 ghost use Prim.Native.Nat.{_≤_};
 ghost use lib.ListN.{length};
-ghost use Rattle.host_handshake.specs.Steps.{handshakeOf, endedWord, handshakeLeft, stepWord, stepSets};
+ghost use Rattle.host_handshake.specs.Steps.{handshakeOf, endedWord, handshakeLeft, stepSets};
 
-// The handshake that 4 words are: any words are one.
+// The handshake that 4 words are.
 pub fn load_handshake(words: &[u64]) -> Handshake
     requires { ⌜ 4 ≤ length (now words) ⌝ }
     ensures { λ r. ⌜ r ≡ handshakeOf (now (words .entry)) ⌝ }
@@ -25,17 +24,10 @@ pub fn load_handshake(words: &[u64]) -> Handshake
     }
 }
 
-// An ended handshake keeps its word, whichever it is, so that a refused step leaves every word.
-fn ended_word(was: u64, ended: bool) -> u64
-    ensures { λ r. ⌜ r ≡ endedWord was ended ⌝ }
+fn ended_word(ended: bool) -> u64
+    ensures { λ r. ⌜ r ≡ endedWord ended ⌝ }
 {
-    if ended {
-        if was == 0 {
-            return 1;
-        }
-        return was;
-    }
-    0
+    if ended { 1 } else { 0 }
 }
 
 pub fn store_handshake(words: &mut [u64], handshake: Handshake)
@@ -43,7 +35,7 @@ pub fn store_handshake(words: &mut [u64], handshake: Handshake)
     ensures { λ r. ⌜ now (words .exit) ≡ handshakeLeft (now (words .entry)) handshake ⌝ }
 {
     let segment = handshake.segment;
-    let ended = ended_word(words[2], handshake.ended);
+    let ended = ended_word(handshake.ended);
     put(
         words,
         0,
@@ -54,17 +46,6 @@ pub fn store_handshake(words: &mut [u64], handshake: Handshake)
             handshake.applied,
         ],
     );
-}
-
-// As `apply_number`, and 512 for a drop.
-pub fn step_number(answer: StepAnswer) -> u64
-    ensures { λ r. ⌜ r ≡ stepWord answer ⌝ }
-{
-    match answer {
-        StepAnswer::Stepped(applied) => apply_number(applied),
-        StepAnswer::Dropped => 512,
-        StepAnswer::OtherSegment => 9,
-    }
 }
 
 // Whether a step sets the status.

@@ -1,6 +1,5 @@
-// The answers of the reads as numbers and words, and estimates as words. specs/Answers.antt and specs/Estimates.antt have the layouts.
+// The answers of the reads as numbers and words, and estimates from words. specs/Answers.antt says what is written where; the layouts are beside the answers' enums.
 use book::BestPrice;
-use book_valid::AuditAnswer;
 use host_words::bits;
 use host_words::kind_words;
 use host_words::load_side;
@@ -18,27 +17,40 @@ use reconstructor_reads::LevelAnswer;
 use reconstructor_reads::Shown;
 use reconstructor_reads::StaleAnswer;
 use reconstructor_segments::SegmentName;
-use reconstructor_view::Audited;
+use reconstructor_state::BookReconstructor;
 use reconstructor_view::BestAnswer;
 use reconstructor_view::InvalidationAnswer;
 use reconstructor_view::SegmentAnswer;
 use reconstructor_view::Viewed;
 ghost use mathlib.Core.Path.{_≡_};
+ghost use mathlib.Core.List.{[], _∷_};
 ghost use Prim.Native.Nat.{_≤_};
 ghost use lib.ListN.{length};
-ghost use Rattle.host_reads.specs.Answers.{answered, lastAnswered, present, priceOf, bestAnswered, findingNumber, auditNumber, shownAnswered, levelAnswered, staleAnswered, invalidationAnswered, segmentAnswered};
-ghost use Rattle.book_levels.specs.Levels.{written};
-ghost use Rattle.host_reads.specs.Estimates.{anchorOf, estimateOf, anchorWords, estimateWords, estimateAnswered, assumptionWord, flagWord, aheadWords, aheadAnswered};
+ghost use Rattle.book.specs.Rows.{ceiling};
+ghost use Rattle.reconstructor_state.specs.State.{lastOf};
+ghost use Rattle.reconstructor_view.specs.View.{bookView, viewed};
+ghost use Rattle.reconstructor_view.specs.Numbers.{viewedTold, present, priceOf, bestTold, invalidationTold, segmentTold};
+ghost use Rattle.reconstructor_reads.specs.Numbers.{shownTold, levelTold, staleTold};
+ghost use Rattle.queue.specs.Numbers.{anchorValues, estimateValues, estimateTold, assumptionWord, flagWord, aheadValues, aheadTold};
+ghost use Rattle.host_reads.specs.Answers.{answered, given, toldIn, lastly};
+ghost use Rattle.host_reads.specs.Estimates.{anchorOf, estimateOf};
+
+// A success's values: 7, and nothing written, where they have no room.
+fn give(out: &mut [u64], values: &[u64]) -> u64
+    ensures { λ r. ⌜ answered r (now (out .exit)) ≡ given (now (values .entry)) (now (out .entry)) ⌝ }
+{
+    if out.len() < values.len() {
+        return 7;
+    }
+    put(out, 0, values);
+    0
+}
 
 pub fn store_last(out: &mut [u64], answer: Viewed) -> u64
-    requires { ⌜ 1 ≤ length (now out) ⌝ }
-    ensures { λ r. ⌜ answered r (now (out .exit)) ≡ lastAnswered answer (now (out .entry)) ⌝ }
+    ensures { λ r. ⌜ answered r (now (out .exit)) ≡ toldIn (viewedTold answer) (now (out .entry)) ⌝ }
 {
     match answer {
-        Viewed::Valid { last_seq } => {
-            put(out, 0, &[last_seq]);
-            0
-        }
+        Viewed::Valid { last_seq } => { give(out, &[last_seq]) }
         Viewed::Refused(why) => why.number(),
     }
 }
@@ -62,59 +74,30 @@ fn price_of(price: BestPrice) -> u64
 }
 
 pub fn store_best(out: &mut [u64], answer: BestAnswer) -> u64
-    requires { ⌜ 4 ≤ length (now out) ⌝ }
-    ensures { λ r. ⌜ answered r (now (out .exit)) ≡ bestAnswered answer (now (out .entry)) ⌝ }
+    ensures { λ r. ⌜ answered r (now (out .exit)) ≡ toldIn (bestTold answer) (now (out .entry)) ⌝ }
 {
     match answer {
         BestAnswer::Prices { bid, ask } => {
-            put(
+            give(
                 out,
-                0,
                 &[present(bid), price_of(bid), present(ask), price_of(ask)],
-            );
-            0
+            )
         }
         BestAnswer::Refused(why) => why.number(),
     }
 }
 
-fn finding_number(finding: AuditAnswer) -> u64
-    ensures { λ r. ⌜ r ≡ findingNumber finding ⌝ }
-{
-    match finding {
-        AuditAnswer::Ok => 0,
-        AuditAnswer::NotLent => 3,
-        AuditAnswer::SizeNotPositive => 3,
-        AuditAnswer::IdTwice => 3,
-        AuditAnswer::Crossed => 3,
-    }
-}
-
-pub fn audit_number(answer: Audited) -> u64
-    ensures { λ r. ⌜ r ≡ auditNumber answer ⌝ }
-{
-    match answer {
-        Audited::Found(finding) => finding_number(finding),
-        Audited::Refused(why) => why.number(),
-    }
-}
-
 fn store_shown(count: &mut [u64], shown: Shown) -> u64
-    requires { ⌜ 1 ≤ length (now count) ⌝ }
-    ensures { λ r. ⌜ answered r (now (count .exit)) ≡ shownAnswered shown (now (count .entry)) ⌝ }
+    ensures { λ r. ⌜ answered r (now (count .exit)) ≡ toldIn (shownTold shown) (now (count .entry)) ⌝ }
 {
     match shown {
-        Shown::Entries(n) => {
-            put(count, 0, &[n as u64]);
-            0
-        }
+        Shown::Entries(n) => { give(count, &[n as u64]) }
         Shown::OutputTooSmall => 7,
     }
 }
 
 pub fn store_level(count: &mut [u64], answer: LevelAnswer) -> u64
-    requires { ⌜ 1 ≤ length (now count) ⌝ }
-    ensures { λ r. ⌜ answered r (now (count .exit)) ≡ levelAnswered answer (now (count .entry)) ⌝ }
+    ensures { λ r. ⌜ answered r (now (count .exit)) ≡ toldIn (levelTold answer) (now (count .entry)) ⌝ }
 {
     match answer {
         LevelAnswer::Shown(shown) => store_shown(count, shown),
@@ -123,8 +106,7 @@ pub fn store_level(count: &mut [u64], answer: LevelAnswer) -> u64
 }
 
 pub fn store_stale(count: &mut [u64], answer: StaleAnswer) -> u64
-    requires { ⌜ 1 ≤ length (now count) ⌝ }
-    ensures { λ r. ⌜ answered r (now (count .exit)) ≡ staleAnswered answer (now (count .entry)) ⌝ }
+    ensures { λ r. ⌜ answered r (now (count .exit)) ≡ toldIn (staleTold answer) (now (count .entry)) ⌝ }
 {
     match answer {
         StaleAnswer::NotStale => 256,
@@ -152,7 +134,7 @@ fn load_anchor(words: &[u64]) -> Anchor
     }
 }
 
-// The estimate that eight words are: any words are one.
+// The estimate that eight words are.
 pub fn load_estimate(words: &[u64]) -> QueueEstimate
     requires { ⌜ 8 ≤ length (now words) ⌝ }
     ensures { λ r. ⌜ r ≡ estimateOf (now (words .entry)) ⌝ }
@@ -177,7 +159,7 @@ struct AnchorWords {
 }
 
 fn anchor_words(anchor: Anchor) -> AnchorWords
-    ensures { λ r. ⌜ r ≡ anchorWords anchor ⌝ }
+    ensures { λ r. ⌜ r .kind ∷ r .first ∷ r .second ∷ r .third ∷ [] ≡ anchorValues anchor ⌝ }
 {
     match anchor {
         Anchor::Hypothetical { orders, created_at } => AnchorWords {
@@ -198,9 +180,8 @@ fn anchor_words(anchor: Anchor) -> AnchorWords
     }
 }
 
-fn put_estimate(out: &mut [u64], estimate: QueueEstimate)
-    requires { ⌜ 8 ≤ length (now out) ⌝ }
-    ensures { λ _. ⌜ now (out .exit) ≡ written (estimateWords estimate) (now (out .entry)) ⌝ }
+fn give_estimate(out: &mut [u64], estimate: QueueEstimate) -> u64
+    ensures { λ r. ⌜ answered r (now (out .exit)) ≡ given (estimateValues estimate) (now (out .entry)) ⌝ }
 {
     let side = estimate.side;
     let segment = estimate.segment;
@@ -208,9 +189,8 @@ fn put_estimate(out: &mut [u64], estimate: QueueEstimate)
     let first = side_word(side);
     let price = bits(estimate.price);
     let last = anchor_words(anchor);
-    put(
+    give(
         out,
-        0,
         &[
             first,
             price,
@@ -225,14 +205,10 @@ fn put_estimate(out: &mut [u64], estimate: QueueEstimate)
 }
 
 pub fn store_estimate(out: &mut [u64], answer: EstimateAnswer) -> u64
-    requires { ⌜ 8 ≤ length (now out) ⌝ }
-    ensures { λ r. ⌜ answered r (now (out .exit)) ≡ estimateAnswered answer (now (out .entry)) ⌝ }
+    ensures { λ r. ⌜ answered r (now (out .exit)) ≡ toldIn (estimateTold answer) (now (out .entry)) ⌝ }
 {
     match answer {
-        EstimateAnswer::Estimate(estimate) => {
-            put_estimate(out, estimate);
-            0
-        }
+        EstimateAnswer::Estimate(estimate) => give_estimate(out, estimate),
         EstimateAnswer::Refused(why) => why.number(),
     }
 }
@@ -253,16 +229,14 @@ fn flag_word(flag: bool) -> u64
     if flag { 1 } else { 0 }
 }
 
-fn put_ahead(out: &mut [u64], a: QueueAhead)
-    requires { ⌜ 7 ≤ length (now out) ⌝ }
-    ensures { λ _. ⌜ now (out .exit) ≡ written (aheadWords a) (now (out .entry)) ⌝ }
+fn give_ahead(out: &mut [u64], a: QueueAhead) -> u64
+    ensures { λ r. ⌜ answered r (now (out .exit)) ≡ given (aheadValues a) (now (out .entry)) ⌝ }
 {
     let first = a.assumption;
     let assumption = assumption_word(first);
     let keeps = flag_word(a.keeps_priority);
-    put(
+    give(
         out,
-        0,
         &[
             a.at_seq,
             a.volume,
@@ -276,29 +250,23 @@ fn put_ahead(out: &mut [u64], a: QueueAhead)
 }
 
 pub fn store_ahead(out: &mut [u64], answer: AheadAnswer) -> u64
-    requires { ⌜ 7 ≤ length (now out) ⌝ }
-    ensures { λ r. ⌜ answered r (now (out .exit)) ≡ aheadAnswered answer (now (out .entry)) ⌝ }
+    ensures { λ r. ⌜ answered r (now (out .exit)) ≡ toldIn (aheadTold answer) (now (out .entry)) ⌝ }
 {
     match answer {
-        AheadAnswer::Ahead(a) => {
-            put_ahead(out, a);
-            0
-        }
+        AheadAnswer::Ahead(a) => give_ahead(out, a),
         AheadAnswer::Refused(why) => why.number(),
     }
 }
 
 pub fn store_invalidation(out: &mut [u64], answer: InvalidationAnswer) -> u64
-    requires { ⌜ 6 ≤ length (now out) ⌝ }
-    ensures { λ r. ⌜ answered r (now (out .exit)) ≡ invalidationAnswered answer (now (out .entry)) ⌝ }
+    ensures { λ r. ⌜ answered r (now (out .exit)) ≡ toldIn (invalidationTold answer) (now (out .entry)) ⌝ }
 {
     match answer {
         InvalidationAnswer::InForce(why) => {
             let kind = why.kind;
             let words = kind_words(kind);
-            put(
+            give(
                 out,
-                0,
                 &[
                     why.last_good_seq,
                     why.first_offending_seq,
@@ -307,22 +275,19 @@ pub fn store_invalidation(out: &mut [u64], answer: InvalidationAnswer) -> u64
                     words.second,
                     words.detail,
                 ],
-            );
-            0
+            )
         }
         InvalidationAnswer::NotInvalid => 256,
     }
 }
 
 pub fn store_segment(out: &mut [u64], answer: SegmentAnswer) -> u64
-    requires { ⌜ 10 ≤ length (now out) ⌝ }
-    ensures { λ r. ⌜ answered r (now (out .exit)) ≡ segmentAnswered answer (now (out .entry)) ⌝ }
+    ensures { λ r. ⌜ answered r (now (out .exit)) ≡ toldIn (segmentTold answer) (now (out .entry)) ⌝ }
 {
     match answer {
         SegmentAnswer::Record(record) => {
-            put(
+            give(
                 out,
-                0,
                 &[
                     record.start_seq,
                     record.last_good_seq,
@@ -335,9 +300,18 @@ pub fn store_segment(out: &mut [u64], answer: SegmentAnswer) -> u64
                     record.elapsed(),
                     record.accepted_messages(),
                 ],
-            );
-            0
+            )
         }
         SegmentAnswer::NoRecord => 256,
+    }
+}
+
+// The number of a read of a valid book whose answer has no room: 7, unless it is turned away before. `short` says that its scratch, if any, is too short.
+pub fn unwritten(book: BookReconstructor, rows: &[u64], short: bool) -> u64
+    ensures { λ r. ⌜ r ≡ lastly (viewedTold (viewed (bookView ceiling book (now (rows .entry)) short) (lastOf (book .status))) .number) ⌝ }
+{
+    match reconstructor_view::valid_book(book, rows, short) {
+        Viewed::Valid { .. } => 7,
+        Viewed::Refused(why) => why.number(),
     }
 }

@@ -2,12 +2,12 @@
 -- Assumes nothing.
 use Prim.Native.Nat.{ℕ, suc, _+_, _*_, _-_, _/_, _≤_, _<_}
 use mathlib.Core.Path.{_≡_, refl, sym, subst, ap, _∙_}
-use mathlib.Core.Bool.{true, false, _||_}
+use mathlib.Core.Bool.{true, false}
 use mathlib.Core.List.{List, _++_, append-assoc}
 use native.Mathlib.Nat.{add-zero, zero-add}
 use native.Mathlib.Numerals.{add-one}
 use native.Mathlib.Omega.{arith}
-use borrow.Author.Tests.{le-ltb}
+use borrow.Author.Tests.{lt-ltb, le-ltb}
 use lib.Dec.{ltb}
 use lib.ListN.{length, set, take, drop, length-drop, length-set, take-append-drop}
 use lib.Seq.{take-all, take-suc-set, drop-set-lt, drop-drop}
@@ -28,25 +28,30 @@ use Rattle.reconstructor_checks.specs.declared.Checked.the-variants.{Passed, Re
 use Rattle.reconstructor_checks.specs.Own.{bookRefusal, checked, Usable, Trusted}
 use Rattle.host_records.specs.Records.{recordsOf, relaid}
 use Rattle.host_records.proofs.Records.{length-records}
-use Rattle.host_words.specs.Block.{bookOf, messageOf, restored, applyNumber, setsStatus}
+use Rattle.reconstructor_answers.specs.Numbers.{answerNumber}
+use Rattle.host_words.specs.Block.{bookOf, messageOf, restored, setsStatus}
+use Rattle.host_boundary.specs.Boundary.{noMessage, noBook, boundary}
 use Rattle.host_calls.specs.Calls.{Call, called, afterApply, applyCall}
 use Rattle.host_replay.specs.Replay.{Run, then, run, ReplayCall, replayCalled, countOf, afterRun, replayCall, Ready, Runs}
 use Rattle.reconstructor_checks.proofs.Own.{usable, trusted, sound, said, said-none}
 use Rattle.reconstructor.proofs.ByValue.{applied-trusted}
 use Rattle.reconstructor.proofs.Kept.{usable-kept, indexed-kept}
-use Rattle.host_words.proofs.Lent.{lent-two}
-use Rattle.host_calls.proofs.Blocks.{applied-state}
+use Rattle.host_boundary.proofs.Passed as Boundary
+use Rattle.host_boundary.proofs.Passed.{passes, wrong-number}
+use Rattle.host_boundary.proofs.Written.{book-kept}
+use Rattle.host_calls.proofs.Blocks.{less, applied-state}
 
 -- what the loop carries, of the state as it was loaded
 module _ (st ws sg ps : List ℕ) (bd : Bounds) (b : BookReconstructor) (e : b ≡ bookOf st) where
   pub loaded : Runs st ws sg ps bd → Trusted ceiling b ws × Indexed ps bd (rowsOf ws (b .rows))
   loaded r = rw e (trusted ceiling (bookOf st) ws (length sg / 8) (r .usable), r .index)
 
-  pub runs-start : 27 ≤ length st → Usable ceiling (bookOf st) ws (length sg / 8) → length ps ≤ 65536 → all (rowMarked ps) (rowsOf ws (b .rows)) ≡ true
+  pub runs-start : 27 ≤ length st → noBook st ≡ false → Usable ceiling (bookOf st) ws (length sg / 8) → length ps ≤ 65536 → all (rowMarked ps) (rowsOf ws (b .rows)) ≡ true
       → all (rowBounded bd) (rowsOf ws (b .rows)) ≡ true → Runs st ws sg ps bd
-  runs-start whole u few marks within =
+  runs-start whole is u few marks within =
       record {
         whole = whole;
+        book = is;
         usable = u;
         index = record { few = few; marks = rw e at marks; within = rw e at within; single = sound (bookOf st) ws (u .sound) .formed .single };
       }
@@ -60,7 +65,7 @@ foreseen ps bd nd os i h = record { few = i .few; marks = i .marks; within = h; 
 -- what its call was seen to give leaves the words of `applyCall`, and the loop goes on
 module _ (st ws sg m ps : List ℕ) (n : ℕ) (bd : Bounds) (w : Work) (ut vs tg qs : List ℕ) (g : Segment) (at : g ≡ segmentAt (recordsOf sg) (bookOf st .segments - 1))
     (e : worked w vs ≡ trustedTo (bookOf st) ws g (messageOf m)) (eg : tg ≡ relaid sg (set (recordsOf sg) (bookOf st .segments - 1) (w .segment)))
-    (eu : ut ≡ restored st (setsStatus (w .answer)) (w .book)) (en : qs ≡ noted ps n (messageOf m .event)) (whole : 27 ≤ length st) (u : Usable ceiling (bookOf st) ws (length sg / 8)) where
+    (eu : ut ≡ restored st (setsStatus (w .answer)) (w .book)) (en : qs ≡ noted ps n (messageOf m .event)) (whole : 27 ≤ length st) (is : noBook st ≡ false) (u : Usable ceiling (bookOf st) ws (length sg / 8)) where
   abbrev after : Parts
   after = applied ceiling (bookOf st) ws (recordsOf sg) (messageOf m)
 
@@ -73,9 +78,11 @@ module _ (st ws sg m ps : List ℕ) (n : ℕ) (bd : Bounds) (w : Work) (ut vs tg
       ap (relisted (recordsOf sg) (bookOf st .segments)) (e ∙ ap (λ (x : Segment). trustedTo (bookOf st) ws x (messageOf m)) at)
       ∙ sym (applied-trusted (bookOf st) ws (recordsOf sg) (messageOf m) ceiling usable-records)
 
-  pub applies : 21 ≤ length m → called (applyNumber (w .answer)) ut vs tg ≡ applyCall st ws sg m
+  pub applies : 21 ≤ length m → noMessage m ≡ false → called (answerNumber (w .answer)) ut vs tg ≡ applyCall st ws sg m
   unfolding applyCall
-  applies full = rw (le-ltb (length st) 27 whole, le-ltb (length m) 21 full, eu, eg) (ap (afterApply st sg) done)
+  applies full right =
+      rw (passes st (length ws) (less st sg) (ltb (length m) 21) (noMessage m) (record { whole = whole; full = le-ltb (length m) 21 full; right = right; book = is }), eu, eg)
+      (ap (afterApply st sg) done)
 
   kept : length (after .segments) ≡ length sg / 8
   kept = ap (λ (p : Parts). length (p .segments)) (sym done) ∙ length-set (recordsOf sg) (bookOf st .segments - 1) (w .segment) ∙ length-records sg
@@ -89,7 +96,7 @@ module _ (st ws sg m ps : List ℕ) (n : ℕ) (bd : Bounds) (w : Work) (ut vs tg
       let index : Indexed qs bd (rowsOf vs (w .book .rows)) =
       subst (λ (p : Parts). Indexed qs bd (rowsOf (p .rows) (p .book .rows))) (sym done)
       (rw en (indexed-kept ceiling (bookOf st) ws (recordsOf sg) (messageOf m) ps bd n usable-records i f (rw en at few))) in
-      record { whole = omega arith; usable = rw (now, same) usable; index = rw now index }
+      record { whole = omega arith; book = rw eu (book-kept st (setsStatus (w .answer)) (w .book) whole is); usable = rw (now, same) usable; index = rw now index }
 
 -- ---- the loop
 
@@ -172,19 +179,30 @@ module _ (st₀ ws₀ sg₀ ms out₀ ps₀ st ws sg out ps : List ℕ) (b : Bou
         rest = l .rest ∙ left-next st ws sg ms out (countOf ms) i k ut vs tg h (omega (arith, l .answers)) (rw (message-at ms i) at e);
       }
 
+-- ---- a message whose words are those of none
+
+pub no-apply : (st ws sg m : List ℕ) → 27 ≤ length st → 21 ≤ length m → noMessage m ≡ true → called 4 st ws sg ≡ applyCall st ws sg m
+unfolding applyCall
+no-apply st ws sg m whole full none = rw (le-ltb (length m) 21 full, none, wrong-number st (length ws) (less st sg) whole)
+
 -- ---- the call, by what the own checks of the loaded state say
 
-module _ (st ws sg ms out : List ℕ) (short : (ltb (length st) 27 || ltb (length out) (countOf ms)) ≡ false) (b : BookReconstructor) (e : b ≡ bookOf st) (k : Checked)
+module _ (st ws sg ms out : List ℕ) (p : Boundary.Passed st false false) (b : BookReconstructor) (e : b ≡ bookOf st) (k : Checked)
     (q : k ≡ checked (bookRefusal ceiling b ws (length sg / 8))) where
-  pub ready : k ≡ Passed → Ready st ws sg ms out
-  ready p =
-      let l = lent-two st 27 out (countOf ms) short in
-      record { whole = l .0; usable = rw e at (usable ceiling b ws (length sg / 8) (said-none _ _ q p)); answered = l .1 }
+  pub ready : k ≡ Passed → countOf ms ≤ length out → Ready st ws sg ms out
+  ready h room = record { whole = p .whole; book = p .book; usable = rw e at (usable ceiling b ws (length sg / 8) (said-none _ _ q h)); answered = room }
+
+  at-boundary : boundary st (length ws) (less st sg) false false ≡ 0
+  at-boundary = passes st (length ws) (less st sg) false false p
 
   pub run-refused : (w : StateError) → k ≡ Refused w → (n : ℕ) → n ≡ stateErrorNumber w → replayCalled n st ws sg out ≡ replayCall st ws sg ms out
   unfolding replayCall
-  run-refused w p n h = rw (short, ← e, said _ _ _ q p, h)
+  run-refused w h n z = rw (at-boundary, ← e, said _ _ _ q h, z)
 
-  pub run-passed : (c : ReplayCall) → k ≡ Passed → c ≡ afterRun out (run (countOf ms) st ws sg ms) → c ≡ replayCall st ws sg ms out
+  pub run-short : k ≡ Passed → length out < countOf ms → replayCalled 7 st ws sg out ≡ replayCall st ws sg ms out
   unfolding replayCall
-  run-passed c p h = h ∙ sym (rw (short, ← e, said-none _ _ q p))
+  run-short h z = rw (at-boundary, ← e, said-none _ _ q h, lt-ltb (length out) (countOf ms) z)
+
+  pub run-passed : (c : ReplayCall) → k ≡ Passed → countOf ms ≤ length out → c ≡ afterRun out (run (countOf ms) st ws sg ms) → c ≡ replayCall st ws sg ms out
+  unfolding replayCall
+  run-passed c h room z = z ∙ sym (rw (at-boundary, ← e, said-none _ _ q h, le-ltb (length out) (countOf ms) room))

@@ -1,6 +1,7 @@
 -- A run of messages on a book whose state and messages are words: as many calls of `pinuglaw_apply`.
 use Prim.Native.Nat.{ℕ, zero, suc, _/_, _≤_}
-use mathlib.Core.Bool.{cond, _||_}
+use mathlib.Core.Path.{_≡_}
+use mathlib.Core.Bool.{cond, false}
 use mathlib.Core.List.{List, [], _∷_, _++_}
 use mathlib.Core.Option.{Option, none, some}
 use lib.Dec.{ltb}
@@ -12,7 +13,8 @@ use Rattle.reconstructor_answers.specs.declared.StateError.{StateError}
 use Rattle.reconstructor_answers.specs.Numbers.{stateErrorNumber}
 use Rattle.reconstructor_checks.specs.Own.{bookRefusal, Usable}
 use Rattle.host_words.specs.Block.{bookOf}
-use Rattle.host_calls.specs.Calls.{applyCall}
+use Rattle.host_boundary.specs.Boundary.{noBook, unlessTurned}
+use Rattle.host_calls.specs.Calls.{callBoundary, applyCall}
 
 -- the numbers of the calls, and the lent words after the last one
 pub record Run : Type 0 where
@@ -55,12 +57,13 @@ afterRun out r = replayCalled 0 (r .state) (r .rows) (r .segments) (r .numbers +
 -- 1, 2 or 3, which every message would be told: nothing is touched
 abbrev pub replaySettled : Option StateError → List ℕ → List ℕ → List ℕ → List ℕ → List ℕ → ReplayCall
 replaySettled (some e) st ws sg ms out = replayCalled (stateErrorNumber e) st ws sg out
-replaySettled none st ws sg ms out = afterRun out (run (countOf ms) st ws sg ms)
+-- then 7: fewer answer words than messages
+replaySettled none st ws sg ms out =
+    cond (ltb (length out) (countOf ms)) (replayCalled 7 st ws sg out) (afterRun out (run (countOf ms) st ws sg ms))
 
--- 7 where fewer than 27 words of state, or fewer answer words than messages, are lent: nothing is touched
 unfoldable pub replayCall : List ℕ → List ℕ → List ℕ → List ℕ → List ℕ → ReplayCall
 replayCall st ws sg ms out =
-    cond (ltb (length st) 27 || ltb (length out) (countOf ms)) (replayCalled 7 st ws sg out)
+    unlessTurned (callBoundary st ws sg false false) (λ (k : ℕ). replayCalled k st ws sg out)
     (replaySettled (bookRefusal ceiling (bookOf st) ws (length sg / 8)) st ws sg ms out)
 
 -- ---- what the inner functions require
@@ -68,12 +71,13 @@ replayCall st ws sg ms out =
 -- lent words that are enough, and a state that passes 1, 2 and 3
 pub record Ready (st ws sg ms out : List ℕ) : Type 0 where
   pub whole : 27 ≤ length st
+  pub book : noBook st ≡ false
   pub usable : Usable ceiling (bookOf st) ws (length sg / 8)
   pub answered : countOf ms ≤ length out
 
 -- such a state, and an index of its rows
-
 pub record Runs (st ws sg places : List ℕ) (b : Bounds) : Type 0 where
   pub whole : 27 ≤ length st
+  pub book : noBook st ≡ false
   pub usable : Usable ceiling (bookOf st) ws (length sg / 8)
   pub index : Indexed places b (rowsOf ws (bookOf st .rows))

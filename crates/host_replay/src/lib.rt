@@ -1,16 +1,20 @@
 // A run of messages applied to a book whose state and messages are words. Numbers 1, 2 and 3 are tested once, and an index of the rows serves the whole run.
 use book_index::Bounds;
+use host_boundary::boundary;
+use host_boundary::list_short;
+use host_boundary::no_message;
 use host_records::last_record;
 use host_records::rewrite_record;
-use host_words::apply_number;
 use host_words::load_book;
 use host_words::load_message;
 use host_words::sets_status;
 use host_words::store_book;
 use reconstructor_checks::Checked;
 ghost use mathlib.Core.Path.{_≡_};
+ghost use mathlib.Core.Bool.{false};
 ghost use Prim.Native.Nat.{_≤_};
 ghost use lib.ListN.{length};
+ghost use Rattle.host_boundary.specs.Boundary.{noMessage};
 ghost use Rattle.host_calls.specs.Calls.{called, applyCall};
 ghost use Rattle.host_replay.specs.Replay.{run, countOf, afterRun, replayCalled, replayCall, Ready, Runs};
 
@@ -20,8 +24,8 @@ struct Replayed {
     bounds: Bounds,
 }
 
-// The next message of the run.
-fn replay_message(
+// The next message of the run, whose words are those of one.
+fn apply_message(
     state: &mut [u64],
     rows: &mut [u64],
     segments: &mut [u64],
@@ -31,6 +35,7 @@ fn replay_message(
 ) -> Replayed
     requires { ⌜ Runs (now state) (now rows) (now segments) (now places) bounds ⌝ }
     requires { ⌜ 21 ≤ length (now message) ⌝ }
+    requires { ⌜ noMessage (now message) ≡ false ⌝ }
     ensures applies { λ r. ⌜ called (r .number) (now (state .exit)) (now (rows .exit)) (now (segments .exit)) ≡ applyCall (now (state .entry)) (now (rows .entry)) (now (segments .entry)) (now (message .entry)) ⌝ }
     ensures runs { λ r. ⌜ Runs (now (state .exit)) (now (rows .exit)) (now (segments .exit)) (now (places .exit)) (r .bounds) ⌝ }
 {
@@ -47,9 +52,29 @@ fn replay_message(
     let answer = work.answer;
     store_book(state, work.book, sets_status(answer));
     Replayed {
-        number: apply_number(answer),
+        number: answer.number(),
         bounds: next,
     }
+}
+
+// The next message of the run: 4, and nothing changed, where its words are those of no message.
+fn replay_message(
+    state: &mut [u64],
+    rows: &mut [u64],
+    segments: &mut [u64],
+    places: &mut [u16],
+    bounds: Bounds,
+    message: &[u64],
+) -> Replayed
+    requires { ⌜ Runs (now state) (now rows) (now segments) (now places) bounds ⌝ }
+    requires { ⌜ 21 ≤ length (now message) ⌝ }
+    ensures applies { λ r. ⌜ called (r .number) (now (state .exit)) (now (rows .exit)) (now (segments .exit)) ≡ applyCall (now (state .entry)) (now (rows .entry)) (now (segments .entry)) (now (message .entry)) ⌝ }
+    ensures runs { λ r. ⌜ Runs (now (state .exit)) (now (rows .exit)) (now (segments .exit)) (now (places .exit)) (r .bounds) ⌝ }
+{
+    if no_message(message) {
+        return Replayed { number: 4, bounds };
+    }
+    apply_message(state, rows, segments, places, bounds, message)
 }
 
 // The run, from an index of the rows on.
@@ -136,13 +161,18 @@ pub fn replay(
 ) -> u64
     ensures { λ r. ⌜ replayCalled r (now (state .exit)) (now (rows .exit)) (now (segments .exit)) (now (answers .exit)) ≡ replayCall (now (state .entry)) (now (rows .entry)) (now (segments .entry)) (now (messages .entry)) (now (answers .entry)) ⌝ }
 {
-    if (state.len() < 27) | (answers.len() < messages.len() / 21) {
-        return 7;
+    let less = list_short(state, segments.len());
+    let stop = boundary(state, rows.len(), less, false, false);
+    if stop != 0 {
+        return stop;
     }
     let book = load_book(state);
     match reconstructor_checks::own_checks(book, rows, segments.len() / 8) {
         Checked::Refused(why) => why.number(),
         Checked::Passed => {
+            if answers.len() < messages.len() / 21 {
+                return 7;
+            }
             if book.rows <= 256 {
                 replay_few(state, rows, segments, messages, answers);
             } else {

@@ -1,43 +1,47 @@
--- The exported reads: what each answers and writes. 7 too where a lent part is shorter than its fixed size (27 words of state, and the answer's own words): then
--- nothing is written. Rows, state and what is lent to be read stay as they are.
+-- The exported reads: what each answers and writes. Rows, state and what is lent to be read stay as they are; a refusal, 7 included, writes nothing.
 use Prim.Native.Nat.{ℕ}
 use mathlib.Core.List.{List}
-use mathlib.Core.Bool.{cond, _||_}
+use mathlib.Core.Bool.{cond, false}
 use lib.Dec.{ltb}
-use lib.ListN.{length}
+use lib.ListN.{length, getD}
 use mir.Syntax.{w64}
 use mir.Val.{toZ}
+use Rattle.message.specs.Told.{Told}
 use Rattle.piece.specs.Piece.{sideOf}
 use Rattle.book.specs.Rows.{ceiling}
 use Rattle.host_words.specs.Block.{bookOf}
+use Rattle.reconstructor_view.specs.Numbers.{viewedTold, bestTold, auditedTold, invalidationTold, segmentTold}
 use Rattle.reconstructor_view.specs.View.{lastSequence, bestRead, auditRead, invalidationOf, segmentRead}
+use Rattle.reconstructor_reads.specs.Numbers.{levelTold, staleTold}
 use Rattle.reconstructor_reads.specs.Reads.{LevelRead, StaleRead, levelQueue, priorityProfile, l2, staleL2}
+use Rattle.host_boundary.specs.Boundary.{noBit, boundary, ownBoundary, unlessTurned}
 use Rattle.host_records.specs.Records.{recordsOf}
-use Rattle.host_reads.specs.Answers.{Answered, answered, lastAnswered, bestAnswered, auditNumber, invalidationAnswered, segmentAnswered, levelAnswered, staleAnswered}
+use Rattle.host_reads.specs.Answers.{Answered, answered, toldIn, lastly}
 
 -- ---- reads whose answer is a value
 
 unfoldable pub lastCall : List ℕ → List ℕ → List ℕ → Answered
 lastCall st ws out =
-    cond (ltb (length st) 27 || ltb (length out) 1) (answered 7 out) (lastAnswered (lastSequence ceiling (bookOf st) ws) out)
+    unlessTurned (boundary st (length ws) false false false) (λ (k : ℕ). answered k out)
+    (toldIn (viewedTold (lastSequence ceiling (bookOf st) ws)) out)
 
 unfoldable pub bestCall : List ℕ → List ℕ → List ℕ → Answered
 bestCall st ws out =
-    cond (ltb (length st) 27 || ltb (length out) 4) (answered 7 out) (bestAnswered (bestRead ceiling (bookOf st) ws) out)
+    unlessTurned (boundary st (length ws) false false false) (λ (k : ℕ). answered k out) (toldIn (bestTold (bestRead ceiling (bookOf st) ws)) out)
 
 unfoldable pub auditCall : List ℕ → List ℕ → ℕ
-auditCall st ws = cond (ltb (length st) 27) 7 (auditNumber (auditRead ceiling (bookOf st) ws))
+auditCall st ws =
+    unlessTurned (boundary st (length ws) false false false) (λ (k : ℕ). k) (auditedTold (auditRead ceiling (bookOf st) ws) .number)
 
 -- ---- the state's own fields and the lent list, whatever the standing
 
 unfoldable pub invalidationCall : List ℕ → List ℕ → Answered
 invalidationCall st out =
-    cond (ltb (length st) 27 || ltb (length out) 6) (answered 7 out)
-    (invalidationAnswered (invalidationOf (bookOf st .status)) out)
+    unlessTurned (ownBoundary st) (λ (k : ℕ). answered k out) (toldIn (invalidationTold (invalidationOf (bookOf st .status))) out)
 
 unfoldable pub segmentCall : List ℕ → List ℕ → ℕ → List ℕ → Answered
 segmentCall st sg place out =
-    cond (ltb (length st) 27 || ltb (length out) 10) (answered 7 out) (segmentAnswered (segmentRead (bookOf st) (recordsOf sg) place) out)
+    unlessTurned (ownBoundary st) (λ (k : ℕ). answered k out) (toldIn (segmentTold (segmentRead (bookOf st) (recordsOf sg) place)) out)
 
 -- ---- level reads: the number of entries goes to `count`
 
@@ -51,30 +55,37 @@ pub record LevelCall : Type 0 where
 abbrev pub levelCalled : ℕ → List ℕ → List ℕ → List ℕ → LevelCall
 levelCalled k sc out count = record { number = k; scratch = sc; out = out; count = count }
 
-abbrev pub afterLevel : List ℕ → LevelRead → LevelCall
-afterLevel count r =
-    levelCalled (levelAnswered (r .answer) count .number) (r .scratch) (r .out) (levelAnswered (r .answer) count .out)
+-- what is left of scratch and output, where there is a word for the number of entries; else they are as lent
+abbrev pub counted : Told → List ℕ → List ℕ → List ℕ → List ℕ → List ℕ → LevelCall
+counted t left shown sc out count =
+    cond (ltb (length count) 1) (levelCalled (lastly (t .number)) sc out count) (levelCalled (toldIn t count .number) left shown (toldIn t count .out))
 
-abbrev pub afterStale : List ℕ → StaleRead → LevelCall
-afterStale count r =
-    levelCalled (staleAnswered (r .answer) count .number) (r .scratch) (r .out) (staleAnswered (r .answer) count .out)
+abbrev pub afterLevel : List ℕ → List ℕ → List ℕ → LevelRead → LevelCall
+afterLevel sc out count r = counted (levelTold (r .answer)) (r .scratch) (r .out) sc out count
+
+abbrev pub afterStale : List ℕ → List ℕ → List ℕ → StaleRead → LevelCall
+afterStale sc out count r = counted (staleTold (r .answer)) (r .scratch) (r .out) sc out count
+
+-- what the words are turned away for
+abbrev pub levelBoundary : List ℕ → List ℕ → List ℕ → ℕ → ℕ
+levelBoundary st ws sc side = boundary st (length ws) (ltb (length sc) (getD st 3 0)) false (noBit side)
 
 unfoldable pub queueCall : List ℕ → List ℕ → List ℕ → ℕ → ℕ → List ℕ → List ℕ → LevelCall
 queueCall st ws sc side price out count =
-    cond (ltb (length st) 27 || ltb (length count) 1) (levelCalled 7 sc out count)
-    (afterLevel count (levelQueue ceiling (bookOf st) ws sc (sideOf side) (toZ w64 price) out))
+    unlessTurned (levelBoundary st ws sc side) (λ (k : ℕ). levelCalled k sc out count)
+    (afterLevel sc out count (levelQueue ceiling (bookOf st) ws sc (sideOf side) (toZ w64 price) out))
 
 unfoldable pub profileCall : List ℕ → List ℕ → List ℕ → ℕ → List ℕ → List ℕ → LevelCall
 profileCall st ws sc side out count =
-    cond (ltb (length st) 27 || ltb (length count) 1) (levelCalled 7 sc out count)
-    (afterLevel count (priorityProfile ceiling (bookOf st) ws sc (sideOf side) out))
+    unlessTurned (levelBoundary st ws sc side) (λ (k : ℕ). levelCalled k sc out count)
+    (afterLevel sc out count (priorityProfile ceiling (bookOf st) ws sc (sideOf side) out))
 
 unfoldable pub l2Call : List ℕ → List ℕ → List ℕ → ℕ → List ℕ → List ℕ → LevelCall
 l2Call st ws sc side out count =
-    cond (ltb (length st) 27 || ltb (length count) 1) (levelCalled 7 sc out count)
-    (afterLevel count (l2 ceiling (bookOf st) ws sc (sideOf side) out))
+    unlessTurned (levelBoundary st ws sc side) (λ (k : ℕ). levelCalled k sc out count)
+    (afterLevel sc out count (l2 ceiling (bookOf st) ws sc (sideOf side) out))
 
 unfoldable pub staleCall : List ℕ → List ℕ → List ℕ → ℕ → List ℕ → List ℕ → LevelCall
 staleCall st ws sc side out count =
-    cond (ltb (length st) 27 || ltb (length count) 1) (levelCalled 7 sc out count)
-    (afterStale count (staleL2 ceiling (bookOf st) ws sc (sideOf side) out))
+    unlessTurned (levelBoundary st ws sc side) (λ (k : ℕ). levelCalled k sc out count)
+    (afterStale sc out count (staleL2 ceiling (bookOf st) ws sc (sideOf side) out))

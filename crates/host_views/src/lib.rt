@@ -1,23 +1,41 @@
 // The reads of a book whose state is words: those that `host` exports.
-use host_reads::audit_number;
+use host_boundary::boundary;
+use host_boundary::no_bit;
+use host_boundary::own_boundary;
+use host_boundary::scratch_short;
 use host_reads::store_best;
 use host_reads::store_invalidation;
 use host_reads::store_last;
 use host_reads::store_level;
 use host_reads::store_segment;
 use host_reads::store_stale;
+use host_reads::unwritten;
 use host_words::load_book;
 use host_words::load_side;
 use host_words::signed;
+use reconstructor_checks::Checked;
+use reconstructor_state::BookReconstructor;
+use reconstructor_state::Status;
 ghost use mathlib.Core.Path.{_≡_};
-ghost use Rattle.host_reads.specs.Answers.{answered};
+ghost use mathlib.Core.Bool.{false};
+ghost use mathlib.Core.List.{[]};
+ghost use lib.Dec.{ltb};
+ghost use lib.ListN.{getD};
+ghost use Rattle.book.specs.Rows.{ceiling};
+ghost use Rattle.reconstructor_view.specs.View.{stateRead};
+ghost use Rattle.reconstructor_reads.specs.declared.Shown.the-variants.{OutputTooSmall};
+ghost use Rattle.reconstructor_reads.specs.Numbers.{staleTold};
+ghost use Rattle.reconstructor_reads.specs.Reads.{shows, staleRead};
+ghost use Rattle.host_boundary.specs.Boundary.{noBit, boundary};
+ghost use Rattle.host_reads.specs.Answers.{answered, lastly};
 ghost use Rattle.host_views.specs.Views.{lastCall, bestCall, auditCall, invalidationCall, segmentCall, levelCalled, queueCall, profileCall, l2Call, staleCall};
 
 pub fn last_sequence(state: &[u64], rows: &[u64], out: &mut [u64]) -> u64
     ensures { λ r. ⌜ answered r (now (out .exit)) ≡ lastCall (now (state .entry)) (now (rows .entry)) (now (out .entry)) ⌝ }
 {
-    if (state.len() < 27) | (out.len() < 1) {
-        return 7;
+    let stop = boundary(state, rows.len(), false, false, false);
+    if stop != 0 {
+        return stop;
     }
     let answer = reconstructor_view::last_sequence(load_book(state), rows);
     store_last(out, answer)
@@ -26,8 +44,9 @@ pub fn last_sequence(state: &[u64], rows: &[u64], out: &mut [u64]) -> u64
 pub fn best(state: &[u64], rows: &[u64], out: &mut [u64]) -> u64
     ensures { λ r. ⌜ answered r (now (out .exit)) ≡ bestCall (now (state .entry)) (now (rows .entry)) (now (out .entry)) ⌝ }
 {
-    if (state.len() < 27) | (out.len() < 4) {
-        return 7;
+    let stop = boundary(state, rows.len(), false, false, false);
+    if stop != 0 {
+        return stop;
     }
     let answer = reconstructor_view::best(load_book(state), rows);
     store_best(out, answer)
@@ -36,17 +55,20 @@ pub fn best(state: &[u64], rows: &[u64], out: &mut [u64]) -> u64
 pub fn audit(state: &[u64], rows: &[u64]) -> u64
     ensures { λ r. ⌜ r ≡ auditCall (now (state .entry)) (now (rows .entry)) ⌝ }
 {
-    if state.len() < 27 {
-        return 7;
+    let stop = boundary(state, rows.len(), false, false, false);
+    if stop != 0 {
+        return stop;
     }
-    audit_number(reconstructor_view::audit(load_book(state), rows))
+    let answer = reconstructor_view::audit(load_book(state), rows);
+    answer.number()
 }
 
 pub fn invalidation(state: &[u64], out: &mut [u64]) -> u64
     ensures { λ r. ⌜ answered r (now (out .exit)) ≡ invalidationCall (now (state .entry)) (now (out .entry)) ⌝ }
 {
-    if (state.len() < 27) | (out.len() < 6) {
-        return 7;
+    let stop = own_boundary(state);
+    if stop != 0 {
+        return stop;
     }
     store_invalidation(out, reconstructor_view::invalidation(load_book(state)))
 }
@@ -54,14 +76,48 @@ pub fn invalidation(state: &[u64], out: &mut [u64]) -> u64
 pub fn segment(state: &[u64], segments: &[u64], place: usize, out: &mut [u64]) -> u64
     ensures { λ r. ⌜ answered r (now (out .exit)) ≡ segmentCall (now (state .entry)) (now (segments .entry)) place (now (out .entry)) ⌝ }
 {
-    if (state.len() < 27) | (out.len() < 10) {
-        return 7;
+    let stop = own_boundary(state);
+    if stop != 0 {
+        return stop;
     }
     let book = load_book(state);
     let lent = segments.len() / 8;
     let record = host_records::record_at(segments, place);
     let answer = reconstructor_view::segment_by_value(book, lent, place, record);
     store_segment(out, answer)
+}
+
+// What the words of a level read are turned away for.
+fn level_boundary(state: &[u64], rows: usize, scratch: usize, side: u64) -> u64
+    ensures { λ r. ⌜ r ≡ boundary (now (state .entry)) rows (ltb scratch (getD (now (state .entry)) 3 0)) false (noBit side) ⌝ }
+{
+    let less = scratch_short(state, scratch);
+    boundary(state, rows, less, false, no_bit(side))
+}
+
+// Number 2 of the scratch.
+fn lacks_scratch(book: BookReconstructor, scratch: usize) -> bool
+    ensures { λ r. ⌜ r ≡ ltb scratch (book .rules .«max_orders») ⌝ }
+{
+    let rules = book.rules;
+    scratch < rules.max_orders
+}
+
+// As `unwritten`, of a read of an invalid book.
+fn unwritten_stale(book: BookReconstructor, rows: &[u64], short: bool) -> u64
+    ensures { λ r. ⌜ r ≡ lastly (staleTold (staleRead (stateRead ceiling book (now (rows .entry)) short) (book .status) (shows OutputTooSmall [] []) [] [] .answer) .number) ⌝ }
+{
+    match reconstructor_view::read_checks(book, rows, short) {
+        Checked::Refused(why) => why.number(),
+        Checked::Passed => {
+            let status = book.status;
+            match status {
+                Status::Empty => 256,
+                Status::Valid { .. } => 256,
+                Status::Invalidated(_) => 7,
+            }
+        }
+    }
 }
 
 pub fn level_queue(
@@ -75,11 +131,16 @@ pub fn level_queue(
 ) -> u64
     ensures { λ r. ⌜ levelCalled r (now (scratch .exit)) (now (out .exit)) (now (count .exit)) ≡ queueCall (now (state .entry)) (now (rows .entry)) (now (scratch .entry)) side price (now (out .entry)) (now (count .entry)) ⌝ }
 {
-    if (state.len() < 27) | (count.len() < 1) {
-        return 7;
+    let stop = level_boundary(state, rows.len(), scratch.len(), side);
+    if stop != 0 {
+        return stop;
+    }
+    let book = load_book(state);
+    if count.len() < 1 {
+        return unwritten(book, rows, lacks_scratch(book, scratch.len()));
     }
     let answer = reconstructor_reads::level_queue(
-        load_book(state),
+        book,
         rows,
         scratch,
         load_side(side),
@@ -99,16 +160,15 @@ pub fn priority_profile(
 ) -> u64
     ensures { λ r. ⌜ levelCalled r (now (scratch .exit)) (now (out .exit)) (now (count .exit)) ≡ profileCall (now (state .entry)) (now (rows .entry)) (now (scratch .entry)) side (now (out .entry)) (now (count .entry)) ⌝ }
 {
-    if (state.len() < 27) | (count.len() < 1) {
-        return 7;
+    let stop = level_boundary(state, rows.len(), scratch.len(), side);
+    if stop != 0 {
+        return stop;
     }
-    let answer = reconstructor_reads::priority_profile(
-        load_book(state),
-        rows,
-        scratch,
-        load_side(side),
-        out,
-    );
+    let book = load_book(state);
+    if count.len() < 1 {
+        return unwritten(book, rows, lacks_scratch(book, scratch.len()));
+    }
+    let answer = reconstructor_reads::priority_profile(book, rows, scratch, load_side(side), out);
     store_level(count, answer)
 }
 
@@ -122,10 +182,15 @@ pub fn l2(
 ) -> u64
     ensures { λ r. ⌜ levelCalled r (now (scratch .exit)) (now (out .exit)) (now (count .exit)) ≡ l2Call (now (state .entry)) (now (rows .entry)) (now (scratch .entry)) side (now (out .entry)) (now (count .entry)) ⌝ }
 {
-    if (state.len() < 27) | (count.len() < 1) {
-        return 7;
+    let stop = level_boundary(state, rows.len(), scratch.len(), side);
+    if stop != 0 {
+        return stop;
     }
-    let answer = reconstructor_reads::l2(load_book(state), rows, scratch, load_side(side), out);
+    let book = load_book(state);
+    if count.len() < 1 {
+        return unwritten(book, rows, lacks_scratch(book, scratch.len()));
+    }
+    let answer = reconstructor_reads::l2(book, rows, scratch, load_side(side), out);
     store_level(count, answer)
 }
 
@@ -139,15 +204,14 @@ pub fn stale_l2(
 ) -> u64
     ensures { λ r. ⌜ levelCalled r (now (scratch .exit)) (now (out .exit)) (now (count .exit)) ≡ staleCall (now (state .entry)) (now (rows .entry)) (now (scratch .entry)) side (now (out .entry)) (now (count .entry)) ⌝ }
 {
-    if (state.len() < 27) | (count.len() < 1) {
-        return 7;
+    let stop = level_boundary(state, rows.len(), scratch.len(), side);
+    if stop != 0 {
+        return stop;
     }
-    let answer = reconstructor_reads::stale_l2(
-        load_book(state),
-        rows,
-        scratch,
-        load_side(side),
-        out,
-    );
+    let book = load_book(state);
+    if count.len() < 1 {
+        return unwritten_stale(book, rows, lacks_scratch(book, scratch.len()));
+    }
+    let answer = reconstructor_reads::stale_l2(book, rows, scratch, load_side(side), out);
     store_stale(count, answer)
 }

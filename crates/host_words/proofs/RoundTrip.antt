@@ -32,7 +32,7 @@ use Rattle.reconstructor_counts.specs.declared.MessageCounts.{MessageCounts}
 use Rattle.reconstructor_state.specs.declared.BookReconstructor.{BookReconstructor}
 use Rattle.host_words.specs.declared.KindWords.{KindWords}
 use Rattle.host_words.specs.declared.StatusWords.{StatusWords}
-use Rattle.host_words.specs.Words.{eventWords, messageWords}
+use Rattle.piece.specs.Words.{eventWords, messageWords}
 use Rattle.host_words.specs.Block.{reasonOf, discrepancyOf, kindOf, statusOf, bookOf, kindWords, statusWords, restored, optionalOf, receivedOf, openOf, doneOf, matchOf, changeOf, eventOf, messageOf}
 use Rattle.message.proofs.Signed.{back}
 
@@ -74,11 +74,11 @@ status-back (Invalidated i) =
     ap (λ k. Invalidated (record { «last_good_seq» = i .«last_good_seq»; «first_offending_seq» = i .«first_offending_seq»; kind = k })) (kind-back (i .kind))
 
 -- words of a list from place i on
-abbrev each : List ℕ → ℕ → ℕ → List ℕ
+abbrev pub each : List ℕ → ℕ → ℕ → List ℕ
 each ws i zero = []
 each ws i (suc k) = getD ws i 0 ∷ each ws (i + 1) k
 
-part : (ws : List ℕ) (i k : ℕ) → i + k ≤ length ws → take k (drop i ws) ≡ each ws i k
+pub part : (ws : List ℕ) (i k : ℕ) → i + k ≤ length ws → take k (drop i ws) ≡ each ws i k
 part ws i zero h = refl
 part ws i (suc k) h =
     rw (drop-cons ws i 0 (omega arith), ← add-one i) (ap (λ l. getD ws i 0 ∷ l) (part ws (i + 1) k (omega arith)))

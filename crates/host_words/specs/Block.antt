@@ -1,4 +1,5 @@
--- A state and a message from words, a state as words, and the number of an answer. Any words are some state and some message.
+-- A state and a message from words, and a state as words. Any words are read as some state and some message; those that no value is written as are turned away before
+-- (crate `host_boundary`).
 use Prim.Native.Nat.{ℕ, _*_, _%_}
 use mathlib.Core.List.{List, [], _∷_, _++_}
 use mathlib.Core.Bool.{Bool, true, false, cond}
@@ -28,21 +29,21 @@ use Rattle.reconstructor_counts.specs.declared.MessageCounts.{MessageCounts}
 use Rattle.reconstructor_state.specs.declared.BookReconstructor.{BookReconstructor}
 use Rattle.reconstructor_answers.specs.declared.ApplyAnswer.{ApplyAnswer}
 use Rattle.reconstructor_answers.specs.declared.ApplyAnswer.the-variants as answers
-use Rattle.reconstructor_answers.specs.Numbers.{kindNumber, kindDetail, appliedValue, answerNumber}
+use Rattle.reconstructor_answers.specs.Numbers.{kindNumber, kindFirst, kindSecond, kindDetail}
 use Rattle.host_words.specs.declared.KindWords.{KindWords}
 use Rattle.host_words.specs.declared.StatusWords.{StatusWords}
 
--- ---- The state: 27 words; `statusList` writes the numbers given here, with 2 for "else" at 6
+-- ---- The state: 27 words
 --   0, 1      product, high and low
---   2         size_decrease: 0 KeepsPriority, else PriorityUnknown
+--   2         size_decrease: 0 KeepsPriority, 1 PriorityUnknown
 --   3, 4      max_orders, max_levels
 --   5         the reconstructor's number
---   6         status: 0 no snapshot yet, 1 valid, else invalid
+--   6         status: 0 no snapshot yet, 1 valid, 2 invalid
 --   7         the last sequence of a valid book, last_good_seq of an invalid one, else 0
 --   8         first_offending_seq of an invalid book, else 0
---   9         of an invalid book the number of its reason, 20 to 22 or 30 to 44 (any other is read as 44), else 0
+--   9         of an invalid book the number of its reason, 20 to 22 or 30 to 44, else 0
 --   10, 11    of 20 the expected sequence and the one that came, of 21 the last one and the one that came, else 0
---   12        of 38 the reason: 1 funds, 0 no size (else read as funds); of any other 0
+--   12        of 38 the reason: 1 funds, 0 no size; of any other 0
 --   13, 14    rows and segment records in use
 --   15 to 26  the counts: received, open, done, matched, stp_decrease, off_book_done, off_book_change, noop_change, handshake_dropped,
 --             skipped_while_invalid, wrong_product, rejected_snapshots
@@ -115,18 +116,6 @@ bookOf ws =
     }
 
 -- the words of a reason and of a status
-abbrev pub kindFirst : InvalidationKind → ℕ
-kindFirst (kinds.Gap expected got) = expected
-kindFirst (kinds.OutOfOrderOrDuplicate last got) = last
-kindFirst kinds.SequenceOverflow = 0
-kindFirst (kinds.Discrepancy d) = 0
-
-abbrev pub kindSecond : InvalidationKind → ℕ
-kindSecond (kinds.Gap expected got) = got
-kindSecond (kinds.OutOfOrderOrDuplicate last got) = got
-kindSecond kinds.SequenceOverflow = 0
-kindSecond (kinds.Discrepancy d) = 0
-
 abbrev pub kindWords : InvalidationKind → KindWords
 kindWords k = record { number = kindNumber k; first = kindFirst k; second = kindSecond k; detail = kindDetail k }
 
@@ -171,18 +160,18 @@ restList b =
 unfoldable pub restored : List ℕ → Bool → BookReconstructor → List ℕ
 restored st sets b = take 6 st ++ statusAfter st sets (b .status) ++ restList b ++ drop 27 st
 
--- ---- A message: 21 words, as `messageWords` of Words.antt gives them
---   0         kind: 1 received, 2 open, 3 done, 4 match, 5 change, else unsupported
+-- ---- A message: 21 words, as `messageWords` of crate `piece` gives them
+--   0         kind: 1 received, 2 open, 3 done, 4 match, 5 change, 6 unsupported
 --   1, 2      product, high and low
 --   3, 4      sequence, time_us
--- and from 5 on, an id being two words (high and low), an optional amount two (0 where it is absent; its bits), a side and a reason one (0, else the
--- other):
+-- and from 5 on, an id being two words (high and low), an optional amount two (1 and its bits, or 0 and a word that does not matter), a side and a
+-- reason one (0 or 1):
 --   received     id 5, side 7
 --   open         id 5, side 7, price 8, remaining 9
 --   done         id 5, side 7, optional price 8, reason 10, optional remaining 11
 --   match        maker id 5, taker id 7, side 9, price 10, size 11
 --   change       id 5, side 7, reason 8, optional price 9, old_size 11, new_size 13, old_price 15, new_price 17, new_funds 19
---   unsupported  its number 5, of which the low 32 bits count
+--   unsupported  its number 5, of 32 bits
 -- Amounts are two's complement; words that no field names do not matter.
 
 unfoldable pub optionalOf : ℕ → ℕ → OptionalAmount
@@ -235,16 +224,6 @@ messageOf ws =
     }
 
 -- ---- An answer
-
--- 01's number; 256 for a message that is applied and changed the book, 0 for one that is applied without effect
-abbrev pub applyNumber : ApplyAnswer → ℕ
-applyNumber (answers.Applied a) = 256 * appliedValue a
-applyNumber (answers.Unusable e) = answerNumber (answers.Unusable e)
-applyNumber answers.AmountOutOfRange = answerNumber answers.AmountOutOfRange
-applyNumber answers.WrongProduct = answerNumber answers.WrongProduct
-applyNumber answers.NotBootstrapped = answerNumber answers.NotBootstrapped
-applyNumber (answers.Invalidated i) = answerNumber (answers.Invalidated i)
-applyNumber (answers.AwaitingSnapshot i) = answerNumber (answers.AwaitingSnapshot i)
 
 -- 01: "Acceptance sets last sequence", "Results 20 to 44 invalidate"; any other answer leaves the status
 abbrev pub setsStatus : ApplyAnswer → Bool

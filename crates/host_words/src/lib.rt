@@ -1,4 +1,4 @@
-// The values that cross the boundary as words, both ways; specs/Words.antt and specs/Block.antt have the layouts. Crate `host` exports the calls.
+// The values that cross the boundary as words, both ways; specs/Block.antt, and Words.antt of crate `piece`, have the layouts. Crate `host` exports the calls.
 use message::ChangeReason;
 use message::DoneReason;
 use message::L3Event;
@@ -7,7 +7,6 @@ use message::L3Side;
 use message::OptionalAmount;
 use message::OrderId;
 use message::ProductId;
-use reconstructor_answers::Applied;
 use reconstructor_answers::ApplyAnswer;
 use reconstructor_answers::Discrepancy;
 use reconstructor_answers::Invalidation;
@@ -26,8 +25,8 @@ ghost use mir.Syntax.{w64};
 ghost use mir.Val.{ofZ, toZ};
 ghost use Rattle.piece.specs.Piece.{sideOf, doneReasonOf, changeReasonOf};
 ghost use Rattle.piece.specs.Encode.{kindByte, sideByte, doneReasonByte, changeReasonByte, presentBit, optionalWord};
-ghost use Rattle.host_words.specs.Words.{eventWords};
-ghost use Rattle.host_words.specs.Block.{sizeDecreaseOf, reasonOf, discrepancyOf, kindOf, statusOf, rulesOf, countsOf, bookOf, kindWords, statusWords, statusAfter, restList, restored, optionalOf, receivedOf, openOf, doneOf, matchOf, changeOf, eventOf, messageOf, applyNumber, setsStatus};
+ghost use Rattle.piece.specs.Words.{eventWords};
+ghost use Rattle.host_words.specs.Block.{sizeDecreaseOf, reasonOf, discrepancyOf, kindOf, statusOf, rulesOf, countsOf, bookOf, kindWords, statusWords, statusAfter, restList, restored, optionalOf, receivedOf, openOf, doneOf, matchOf, changeOf, eventOf, messageOf, setsStatus};
 
 // ---- a value as words
 
@@ -323,7 +322,7 @@ fn load_status(word: u64, last: u64, offending: u64, kind: InvalidationKind) -> 
     }
 }
 
-fn load_rules(words: &[u64]) -> VenueRules
+pub fn load_rules(words: &[u64]) -> VenueRules
     requires { ⌜ 27 ≤ length (now words) ⌝ }
     ensures { λ r. ⌜ r ≡ rulesOf (now (words .entry)) ⌝ }
 {
@@ -686,24 +685,6 @@ pub fn load_message(words: &[u64]) -> L3Message
 }
 
 // ---- an answer
-
-// 01's number of an answer; 256 where the message was applied and changed the book, 0 where it was applied without effect.
-pub fn apply_number(answer: ApplyAnswer) -> u64
-    ensures { λ r. ⌜ r ≡ applyNumber answer ⌝ }
-{
-    match answer {
-        ApplyAnswer::Applied(applied) => match applied {
-            Applied::BookChanged => 256,
-            Applied::NoBookEffect => 0,
-        },
-        ApplyAnswer::Unusable(why) => why.number(),
-        ApplyAnswer::AmountOutOfRange => 5,
-        ApplyAnswer::WrongProduct => 10,
-        ApplyAnswer::NotBootstrapped => 15,
-        ApplyAnswer::Invalidated(_) => 16,
-        ApplyAnswer::AwaitingSnapshot(_) => 17,
-    }
-}
 
 // Whether `apply` sets the status with this answer.
 pub fn sets_status(answer: ApplyAnswer) -> bool

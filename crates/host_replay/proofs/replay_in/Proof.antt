@@ -28,7 +28,7 @@ replay-from-requires c κs =
     let a = k-start .args in
     let b = c .before .before .before .before .before .before .before .before .before .before .before .before .load-book in
     let k = c .before .before .before .before .before .before .before .before .before .mark-rows in
-    (runs-start (a .state .now) (a .rows .now) (a .segments .now) _ _ (b .result) (b .ensures) (k-start .pre .0 .whole) (k-start .pre .0 .usable) (omega (arith, k .kept .1 .1 .0, k-start .pre .1)) (k .ensures) (c .before .before .before .before .before .bounds-of .ensures), k-start .pre .0 .answered)
+    (runs-start (a .state .now) (a .rows .now) (a .segments .now) _ _ (b .result) (b .ensures) (k-start .pre .0 .whole) (k-start .pre .0 .book) (k-start .pre .0 .usable) (omega (arith, k .kept .1 .1 .0, k-start .pre .1)) (k .ensures) (c .before .before .before .before .before .bounds-of .ensures), k-start .pre .0 .answered)
 
 pub replay-in-spec : {M : Type 1} → statement M
 replay-in-spec =

@@ -1,75 +1,62 @@
+use mathlib.Core.Path.{_≡_, refl, sym, ap, _∙_}
+use Rattle.host_replay.proofs.Runs.{no-apply}
 use borrow.Author.Needs.{needs}
-use Rattle.reconstructor_checks.proofs.Own.{rows-ready}
-use Rattle.reconstructor.proofs.Laws.{trusted-ready}
-use Rattle.host_replay.proofs.Runs.{loaded, foreseen, applies, runs-on}
 use Rattle.host_replay.proofs.replay_message.Statement.{statement}
 use Rattle.host_replay.proofs.replay_message.Tie as tie
+use Rattle.host_replay.proofs.replay_message.Reads as reads
+use Rattle.host_replay.proofs.replay_message.Lts as lts
+use Rattle.host_boundary.proofs.no_message.Reads as no-message-reads
+use Rattle.host_replay.proofs.apply_message.Reads as apply-message-reads
 
-foresee-requires : tie.Need-foresee-requires
-foresee-requires c κs =
-    let k-start = c .before .before .before .before .before .before .before .before .before in
-    let a = k-start .args in
-    let b = c .before .before .load-book in
-    let r = loaded (a .state .now) (a .rows .now) (a .segments .now) (a .places .now) (a .bounds) (b .result) (b .ensures) (k-start .pre .0) in
-    (rows-ready (b .result) (a .rows .now) (r .0), r .1 .within)
+-- src/lib.rt:74:8
+no-message-requires : tie.Need-no-message-requires
+no-message-requires c κs = search needs
 
-apply-indexed-requires : tie.Need-apply-indexed-requires
-apply-indexed-requires c κs =
-    let k-start = c .before .before .before .before .before .before .before .before .before .before .before .before .before .before in
-    let a = k-start .args in
-    let b = c .before .before .before .before .before .before .before .load-book in
-    let r = loaded (a .state .now) (a .rows .now) (a .segments .now) (a .places .now) (a .bounds) (b .result) (b .ensures) (k-start .pre .0) in
-    (trusted-ready (b .result) (a .rows .now) (r .0), foreseen _ _ _ _ (r .1) (c .before .before .before .before .foresee .ensures .0))
-
-note-requires : tie.Need-note-requires
-note-requires c κs =
-    let k-start = c .before .before .before .before .before .before .before .before .before .before .before .before .before .before .before .before .before .before .before .before .before .before in
-    let a = k-start .args in
-    let b = c .before .before .before .before .before .before .before .before .before .before .before .before .before .before .before .load-book in
-    let r = loaded (a .state .now) (a .rows .now) (a .segments .now) (a .places .now) (a .bounds) (b .result) (b .ensures) (k-start .pre .0) in
-    (r .1 .few, rows-ready (b .result) (a .rows .now) (r .0) .few)
-
-store-book-requires : tie.Need-store-book-requires
-store-book-requires c κs = c .before .before .before .before .before .before .before .before .before .before .before .before .before .before .before .before .before .before .before .before .before .before .before .before .before .before .before .pre .0 .whole
-
+-- src/lib.rt:75:9
 returns : tie.Need-returns
 returns c =
-    let k-start = c .before .before .before .before .before .before .before .before .before .before .before .before .before .before .before .before .before .before .before .before .before .before .before .before .before .before .before .before .before .before .before in
-    let a = k-start .args in
-    let b = c .before .before .before .before .before .before .before .before .before .before .before .before .before .before .before .before .before .before .before .before .before .before .before .before .load-book in
-    let m = c .before .before .before .before .before .before .before .before .before .before .before .before .before .before .before .before .before .before .before .before .before .before .before .load-message in
-    let w = c .before .before .before .before .before .before .before .before .before .before .before .before .before .before .before .before .apply-indexed in
-    let runs = k-start .pre .0 in
-    let st = a .state .now in
-    let ws = a .rows .now in
-    let sg = a .segments .now in
-    let at = rw (b .ensures) at (c .before .before .before .before .before .before .before .before .before .before .before .before .before .before .before .before .before .before .before .last-record .ensures) in
-    let e = rw (b .ensures, m .ensures) at (w .ensures) in
-    let eg = rw (b .ensures) at (c .before .before .before .before .before .before .before .before .before .before .before .before .rewrite-record .ensures) in
-    let eu = rw (c .before .before .before .before .sets-status .ensures) at (c .before .before .before .store-book .ensures) in
-    let en = rw (m .ensures) at (c .before .before .before .before .before .before .before .before .note .ensures) in
-    let f = rw (m .ensures) at (c .before .before .before .before .before .before .before .before .before .before .before .before .before .before .before .before .before .before .before .before .before .foresee .ensures .1) in
-    let i = rw (b .ensures) at (foreseen _ _ _ _ (loaded st ws sg (a .places .now) (a .bounds) (b .result) (b .ensures) runs .1) (c .before .before .before .before .before .before .before .before .before .before .before .before .before .before .before .before .before .before .before .before .before .foresee .ensures .0)) in (
-      rw (c .apply-number .ensures) (applies st ws sg (a .message .now) (a .places .now) (b .result .rows) (c .before .before .before .before .before .before .before .before .before .before .before .before .before .before .before .before .before .before .before .before .before .foresee .result) (w .result) _ _ _ _ _ at e eg eu en (runs .whole) (runs .usable) (k-start .pre .1)),
-      runs-on st ws sg (a .message .now) (a .places .now) (b .result .rows) (c .before .before .before .before .before .before .before .before .before .before .before .before .before .before .before .before .before .before .before .before .before .foresee .result) (w .result) _ _ _ _ _ at e eg eu en (runs .whole) (runs .usable) (c .before .before .before .store-book .kept .0) (c .before .before .before .before .before .before .before .before .before .before .before .before .rewrite-record .kept .0) (c .before .before .before .before .before .before .before .before .note .kept .0) i f,
-    )
+    let k-start = c .before .before .before .before .before .before .before in
+    (no-apply (k-start .args .state .now) (k-start .args .rows .now) (k-start .args .segments .now) (k-start .args .message .now) (k-start .pre .0 .whole) (k-start .pre .1) (sym (c .before .no-message .ensures) ∙ c .if1 .taken), k-start .pre .0)
+
+-- src/lib.rt:77:5
+apply-message-requires : tie.Need-apply-message-requires
+apply-message-requires c κs =
+    let k-if1 = c .before .before .before .before in
+    let k-no-message = k-if1 .before in
+    let k-start = k-no-message .before .before .before .before .before .before in
+    (k-start .pre .0, (k-start .pre .1, sym (k-no-message .no-message .ensures) ∙ k-if1 .if1 .left))
+
+-- src/lib.rt:61:1
+same-length : tie.Need-same-length
+same-length c = search needs
+
+-- src/lib.rt:61:1
+same-length-2 : tie.Need-same-length-2
+same-length-2 c = search needs
+
+-- src/lib.rt:61:1
+same-length-3 : tie.Need-same-length-3
+same-length-3 c = search needs
+
+-- src/lib.rt:61:1
+same-length-4 : tie.Need-same-length-4
+same-length-4 c = search needs
+
+-- src/lib.rt:61:1
+returns-2 : tie.Need-returns-2
+returns-2 c =
+    let k-apply-message = c .before .before .before .before .before .before .before .before in
+    (k-apply-message .apply-message .ensures .0, k-apply-message .apply-message .ensures .1)
 
 pub replay-message-spec : {M : Type 1} → statement M
 replay-message-spec =
     tie.close
     (tie.spec
-    (λ c κs. search needs)
-    (λ c κs. search needs)
-    foresee-requires
-    (λ c κs. search needs)
-    apply-indexed-requires
-    (λ c κs. search needs)
-    note-requires
-    (λ c κs. search needs)
-    store-book-requires
-    (λ c κs. search needs)
-    (λ c. search needs)
-    (λ c. search needs)
-    (λ c. search needs)
-    (λ c. search needs)
-    returns)
+    no-message-requires
+    returns
+    apply-message-requires
+    same-length
+    same-length-2
+    same-length-3
+    same-length-4
+    returns-2)

@@ -1,0 +1,76 @@
+-- What the words of an exported call are turned away for before the rules are worked. Demand 1: "All else is turned away under a number from 01's table". In turn:
+--   768  an input of fixed size is lent shorter than it is: 27 words of state, 21 of a message, 4 of a handshake, 8 of an estimate. No number of 01's table
+--   4    the words are those of no message, handshake, estimate or side, as bytes may be no piece
+--   3    the state block is that of no book, after 1 and 2: the words lent are no book
+-- Then nothing is touched. The layouts are in Block.antt of `host_words`, and beside the values.
+use Prim.Native.Nat.{ℕ, _*_}
+use mathlib.Core.Bool.{Bool, true, _||_, _&&_, cond}
+use mathlib.Core.List.{List}
+use lib.Dec.{eqb, ltb}
+use lib.ListN.{length, getD}
+use Rattle.book.specs.Rows.{ceiling}
+use Rattle.reconstructor_state.specs.declared.VenueRules.{VenueRules}
+use Rattle.reconstructor_checks.specs.Own.{overCeiling}
+use Rattle.host_words.specs.Block.{rulesOf}
+
+abbrev pub shortInput : ℕ
+shortInput = 768
+
+-- a side, a reason, a presence, an anchor and a flag are 0 or 1
+abbrev pub noBit : ℕ → Bool
+noBit w = ltb 1 w
+
+-- ---- 4
+
+unfoldable pub noDone : List ℕ → Bool
+noDone ws = noBit (getD ws 7 0) || (noBit (getD ws 8 0) || (noBit (getD ws 10 0) || noBit (getD ws 11 0)))
+
+unfoldable pub noChange : List ℕ → Bool
+noChange ws =
+    noBit (getD ws 7 0) ||
+    (noBit (getD ws 8 0) ||
+    (noBit (getD ws 9 0) ||
+    (noBit (getD ws 11 0) || (noBit (getD ws 13 0) || (noBit (getD ws 15 0) || (noBit (getD ws 17 0) || noBit (getD ws 19 0)))))))
+
+-- by its kind; 01: "an unsupported kind a 32-bit number"
+unfoldable pub noMessage : List ℕ → Bool
+noMessage ws =
+    cond (eqb (getD ws 0 0) 1) (noBit (getD ws 7 0))
+    (cond (eqb (getD ws 0 0) 2) (noBit (getD ws 7 0))
+    (cond (eqb (getD ws 0 0) 3) (noDone ws)
+    (cond (eqb (getD ws 0 0) 4) (noBit (getD ws 9 0))
+    (cond (eqb (getD ws 0 0) 5) (noChange ws) (cond (eqb (getD ws 0 0) 6) (ltb 4294967295 (getD ws 5 0)) true)))))
+
+abbrev pub noHandshake : List ℕ → Bool
+noHandshake hs = noBit (getD hs 2 0)
+
+abbrev pub noEstimate : List ℕ → Bool
+noEstimate e = noBit (getD e 0 0) || noBit (getD e 4 0)
+
+-- ---- 3
+
+-- a reason is 20 to 22 or 30 to 44, and 38 is of one of two
+abbrev pub noReason : ℕ → ℕ → Bool
+noReason k detail = cond (eqb k 38) (noBit detail) (ltb k 20 || ((ltb 22 k && ltb k 30) || ltb 44 k))
+
+unfoldable pub noBook : List ℕ → Bool
+noBook st = noBit (getD st 2 0) || (ltb 2 (getD st 6 0) || (eqb (getD st 6 0) 2 && noReason (getD st 9 0) (getD st 12 0)))
+
+-- 1, 2, then 3; `less` says that scratch is under max_orders, or the list shorter than the segment count
+unfoldable pub noBookNumber : VenueRules → ℕ → Bool → ℕ
+noBookNumber v rows less = cond (overCeiling ceiling v) 1 (cond (ltb rows (8 * v .«max_orders») || less) 2 3)
+
+-- ---- in turn
+
+-- the number, or 0 where the words stand for values. `short` says that another input is too short, `wrong` that its words are those of no value
+unfoldable pub boundary : List ℕ → ℕ → Bool → Bool → Bool → ℕ
+boundary st rows less short wrong =
+    cond (ltb (length st) 27 || short) shortInput (cond wrong 4 (cond (noBook st) (noBookNumber (rulesOf st) rows less) 0))
+
+-- of a call that is lent the state alone
+unfoldable pub ownBoundary : List ℕ → ℕ
+ownBoundary st = cond (ltb (length st) 27) shortInput (cond (noBook st) 3 0)
+
+-- what a call comes to: what it is turned away with, or else
+abbrev pub unlessTurned : {A : Type 0} → ℕ → (ℕ → A) → A → A
+unlessTurned k away a = cond (eqb k 0) a (away k)
