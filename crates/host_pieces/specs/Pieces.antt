@@ -11,7 +11,7 @@ use Rattle.piece.specs.declared.ReadMessage.{ReadMessage}
 use Rattle.piece.specs.declared.ReadMessage.the-variants.{Message, Refused}
 use Rattle.piece.specs.declared.ReadSnapshot.{ReadSnapshot}
 use Rattle.piece.specs.declared.ReadSnapshot.the-variants.{Snapshot, Refused as RefusedSnapshot}
-use Rattle.host_words.specs.Words.{messageWords, snapshotWords, orderWords}
+use Rattle.piece.specs.Words.{messageWords, snapshotWords, orderWords}
 
 abbrev pub messageNumber : List ℕ → ReadMessage → ℕ
 messageNumber out (Message m) = cond (ltb (length out) 21) 7 0

@@ -8,7 +8,7 @@ use lib.ListN.{length, take, drop}
 use lib.Seq.{take-at, drop-drop, drop-append-add}
 use Rattle.message.specs.declared.L3Event.{L3Event}
 use Rattle.message.specs.declared.L3Event.the-variants.{Received, Open, Done, Match, Change, Unsupported}
-use Rattle.host_words.specs.Words.{eventWords}
+use Rattle.piece.specs.Words.{eventWords}
 
 pub length-event : (e : L3Event) → length (eventWords e) ≡ 16
 length-event (Received i side) = refl

@@ -32,7 +32,7 @@ use Rattle.reconstructor_counts.specs.declared.MessageCounts.{MessageCounts}
 use Rattle.reconstructor_state.specs.declared.BookReconstructor.{BookReconstructor}
 use Rattle.host_words.specs.declared.KindWords.{KindWords}
 use Rattle.host_words.specs.declared.StatusWords.{StatusWords}
-use Rattle.host_words.specs.Words.{eventWords, messageWords}
+use Rattle.piece.specs.Words.{eventWords, messageWords}
 use Rattle.host_words.specs.Block.{reasonOf, discrepancyOf, kindOf, statusOf, bookOf, kindWords, statusWords, restored, optionalOf, receivedOf, openOf, doneOf, matchOf, changeOf, eventOf, messageOf}
 use Rattle.message.proofs.Signed.{back}
 

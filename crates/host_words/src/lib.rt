@@ -26,7 +26,7 @@ ghost use mir.Syntax.{w64};
 ghost use mir.Val.{ofZ, toZ};
 ghost use Rattle.piece.specs.Piece.{sideOf, doneReasonOf, changeReasonOf};
 ghost use Rattle.piece.specs.Encode.{kindByte, sideByte, doneReasonByte, changeReasonByte, presentBit, optionalWord};
-ghost use Rattle.host_words.specs.Words.{eventWords};
+ghost use Rattle.piece.specs.Words.{eventWords};
 ghost use Rattle.host_words.specs.Block.{sizeDecreaseOf, reasonOf, discrepancyOf, kindOf, statusOf, rulesOf, countsOf, bookOf, kindWords, statusWords, statusAfter, restList, restored, optionalOf, receivedOf, openOf, doneOf, matchOf, changeOf, eventOf, messageOf, applyNumber, setsStatus};
 
 // ---- a value as words

@@ -1,3 +1,4 @@
 pub mod Values
 pub mod Same
 pub mod Amounts
+pub mod Told

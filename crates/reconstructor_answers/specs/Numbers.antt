@@ -1,6 +1,7 @@
 -- The numbers of 01's table that the cases of each answer stand for, and the values that they carry.
 use Prim.Native.Nat.{ℕ}
 use mathlib.Core.List.{List, [], _∷_}
+use Rattle.message.specs.Told.{Told, told, changed}
 use Rattle.reconstructor_answers.specs.declared.MalformedReason.{MalformedReason}
 use Rattle.reconstructor_answers.specs.declared.MalformedReason.the-variants.{Funds, NoSize}
 use Rattle.reconstructor_answers.specs.declared.Discrepancy.{Discrepancy}
@@ -73,31 +74,38 @@ stateErrorNumber LimitAboveCeiling = 1
 stateErrorNumber LentTooShort = 2
 stateErrorNumber MalformedBook = 3
 
--- 0 for a message that is not turned away
-abbrev pub answerNumber : ApplyAnswer → ℕ
-answerNumber (answers.Applied a) = 0
-answerNumber (answers.Unusable e) = stateErrorNumber e
-answerNumber answers.AmountOutOfRange = 5
-answerNumber answers.WrongProduct = 10
-answerNumber answers.NotBootstrapped = 15
-answerNumber (answers.Invalidated i) = 16
-answerNumber (answers.AwaitingSnapshot i) = 17
+-- of 20 the expected sequence and the one that came, of 21 the last one and the one that came
+abbrev pub kindFirst : InvalidationKind → ℕ
+kindFirst (kinds.Gap expected got) = expected
+kindFirst (kinds.OutOfOrderOrDuplicate last got) = last
+kindFirst kinds.SequenceOverflow = 0
+kindFirst (kinds.Discrepancy d) = 0
+
+abbrev pub kindSecond : InvalidationKind → ℕ
+kindSecond (kinds.Gap expected got) = got
+kindSecond (kinds.OutOfOrderOrDuplicate last got) = got
+kindSecond kinds.SequenceOverflow = 0
+kindSecond (kinds.Discrepancy d) = 0
 
 -- 01, apply: "the answer is 16 with the last good sequence, the offending one and the reason"
 abbrev pub invalidationValues : Invalidation → List ℕ
-invalidationValues i = i .«last_good_seq» ∷ i .«first_offending_seq» ∷ kindNumber (i .kind) ∷ kindDetail (i .kind) ∷ []
+invalidationValues i =
+    i .«last_good_seq» ∷ i .«first_offending_seq» ∷ kindNumber (i .kind) ∷ kindFirst (i .kind) ∷ kindSecond (i .kind) ∷ kindDetail (i .kind) ∷ []
 
--- 1 where the book changed
-abbrev pub appliedValue : Applied → ℕ
-appliedValue BookChanged = 1
-appliedValue NoBookEffect = 0
+-- no refusal: whether the book changed
+abbrev pub appliedNumber : Applied → ℕ
+appliedNumber BookChanged = changed
+appliedNumber NoBookEffect = 0
 
--- the values of each case: of an acceptance what it did, of 16 and 17 the invalidation
-abbrev pub answerValues : ApplyAnswer → List ℕ
-answerValues (answers.Applied a) = appliedValue a ∷ []
-answerValues (answers.Unusable e) = []
-answerValues answers.AmountOutOfRange = []
-answerValues answers.WrongProduct = []
-answerValues answers.NotBootstrapped = []
-answerValues (answers.Invalidated i) = invalidationValues i
-answerValues (answers.AwaitingSnapshot i) = invalidationValues i
+-- the answer of `apply`; 16 and 17 carry the invalidation
+abbrev pub answerTold : ApplyAnswer → Told
+answerTold (answers.Applied a) = told (appliedNumber a) []
+answerTold (answers.Unusable e) = told (stateErrorNumber e) []
+answerTold answers.AmountOutOfRange = told 5 []
+answerTold answers.WrongProduct = told 10 []
+answerTold answers.NotBootstrapped = told 15 []
+answerTold (answers.Invalidated i) = told 16 (invalidationValues i)
+answerTold (answers.AwaitingSnapshot i) = told 17 (invalidationValues i)
+
+abbrev pub answerNumber : ApplyAnswer → ℕ
+answerNumber a = answerTold a .number

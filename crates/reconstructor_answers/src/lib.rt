@@ -1,6 +1,6 @@
 // Why a segment ends, why a state serves no call, and the answer of `apply`, with their numbers in 01's table.
 ghost use mathlib.Core.Path.{_≡_};
-ghost use Rattle.reconstructor_answers.specs.Numbers.{reasonDetail, discrepancyNumber, discrepancyDetail, kindNumber, kindDetail, stateErrorNumber, answerNumber};
+ghost use Rattle.reconstructor_answers.specs.Numbers.{reasonDetail, discrepancyNumber, discrepancyDetail, kindNumber, kindDetail, stateErrorNumber, appliedNumber, answerNumber};
 
 // Why a change without a new size is malformed.
 pub enum MalformedReason {
@@ -170,13 +170,24 @@ impl StateError {
     }
 }
 
+impl Applied {
+    pub fn number(self) -> u64
+        ensures { λ r. ⌜ r ≡ appliedNumber self ⌝ }
+    {
+        match self {
+            Applied::BookChanged => 256,
+            Applied::NoBookEffect => 0,
+        }
+    }
+}
+
 impl ApplyAnswer {
-    // 0 for an applied message.
+    // 256 where the message was applied and changed the book, 0 where it was applied without effect, else 01's number.
     pub fn number(self) -> u64
         ensures { λ r. ⌜ r ≡ answerNumber self ⌝ }
     {
         match self {
-            ApplyAnswer::Applied(_) => 0,
+            ApplyAnswer::Applied(applied) => applied.number(),
             ApplyAnswer::Unusable(why) => why.number(),
             ApplyAnswer::AmountOutOfRange => 5,
             ApplyAnswer::WrongProduct => 10,

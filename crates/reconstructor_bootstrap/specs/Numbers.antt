@@ -1,5 +1,7 @@
 -- The numbers of 01's table that the cases of `bootstrap`'s answer stand for. No case carries a value of its own.
 use Prim.Native.Nat.{ℕ}
+use mathlib.Core.List.{[]}
+use Rattle.message.specs.Told.{Told, told}
 use Rattle.reconstructor_answers.specs.Numbers.{stateErrorNumber}
 use Rattle.reconstructor_bootstrap.specs.declared.SnapshotError.{SnapshotError}
 use Rattle.reconstructor_bootstrap.specs.declared.SnapshotError.the-variants.{WrongProduct, DuplicateId, InvalidValue, Crossed, CapacityExceeded}
@@ -14,11 +16,14 @@ snapshotErrorNumber InvalidValue = 12
 snapshotErrorNumber Crossed = 13
 snapshotErrorNumber CapacityExceeded = 14
 
--- 0 for a snapshot that is accepted
+-- the answer of `bootstrap`
+abbrev pub snapshotTold : SnapshotAnswer → Told
+snapshotTold Bootstrapped = told 0 []
+snapshotTold (Unusable e) = told (stateErrorNumber e) []
+snapshotTold NotAPiece = told 4 []
+snapshotTold AmountOutOfRange = told 5 []
+snapshotTold ListFull = told 6 []
+snapshotTold (Rejected e) = told (snapshotErrorNumber e) []
+
 abbrev pub snapshotNumber : SnapshotAnswer → ℕ
-snapshotNumber Bootstrapped = 0
-snapshotNumber (Unusable e) = stateErrorNumber e
-snapshotNumber NotAPiece = 4
-snapshotNumber AmountOutOfRange = 5
-snapshotNumber ListFull = 6
-snapshotNumber (Rejected e) = snapshotErrorNumber e
+snapshotNumber a = snapshotTold a .number

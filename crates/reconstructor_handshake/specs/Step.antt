@@ -3,7 +3,7 @@
 -- passes by; 16 or 17 ends the handshake; it keeps the number applied."
 use Prim.Native.Nat.{ℕ}
 use mathlib.Core.Bool.{Bool, true, false, not, _||_, _&&_, cond}
-use mathlib.Core.List.{List}
+use mathlib.Core.List.{List, []}
 use mathlib.Core.Option.{Option, none, some}
 use lib.Dec.{eqb, leb}
 use Rattle.message.specs.declared.ProductId.{ProductId}
@@ -13,7 +13,8 @@ use Rattle.message.specs.Values.{eventInRange}
 use Rattle.reconstructor_answers.specs.declared.StateError.{StateError}
 use Rattle.reconstructor_answers.specs.declared.ApplyAnswer.{ApplyAnswer}
 use Rattle.reconstructor_answers.specs.declared.ApplyAnswer.the-variants as answers
-use Rattle.reconstructor_answers.specs.Numbers.{answerNumber}
+use Rattle.message.specs.Told.{Told, told, droppedNumber}
+use Rattle.reconstructor_answers.specs.Numbers.{answerTold}
 use Rattle.reconstructor_counts.specs.Counts.{saturated, countedAt}
 use Rattle.reconstructor_segments.specs.declared.Segment.{Segment}
 use Rattle.reconstructor_segments.specs.declared.SegmentName.{SegmentName}
@@ -35,11 +36,14 @@ newHandshake name = record { segment = name; ended = false; applied = 0 }
 
 -- ---- numbers
 
--- a drop is a success
+-- the answer of a step; a drop is a success
+abbrev pub stepTold : StepAnswer → Told
+stepTold (Stepped a) = answerTold a
+stepTold Dropped = told droppedNumber []
+stepTold OtherSegment = told 9 []
+
 abbrev pub stepNumber : StepAnswer → ℕ
-stepNumber (Stepped a) = answerNumber a
-stepNumber Dropped = 0
-stepNumber OtherSegment = 9
+stepNumber a = stepTold a .number
 
 -- ---- when a step is turned away before `apply`
 

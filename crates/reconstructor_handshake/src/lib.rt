@@ -62,12 +62,13 @@ fn reply_of(work: StepWork) -> StepReply
 }
 
 impl StepAnswer {
+    // As `apply`'s, and 512 for a drop.
     pub fn number(self) -> u64
         ensures { λ r. ⌜ r ≡ stepNumber self ⌝ }
     {
         match self {
             StepAnswer::Stepped(answer) => answer.number(),
-            StepAnswer::Dropped => 0,
+            StepAnswer::Dropped => 512,
             StepAnswer::OtherSegment => 9,
         }
     }

@@ -14,7 +14,7 @@ ghost use lib.ListN.{length};
 ghost use Rattle.book.specs.Rows.{Lent, ceiling, rowsOf};
 ghost use Rattle.book.specs.Broken.{someRowBroken};
 ghost use Rattle.reconstructor_reads.specs.Reads.{queueContent, levelsContent, shows, shown, readOf, leaves, levelQueue, priorityProfile, l2, leavesStale, staleL2};
-ghost use Rattle.reconstructor_reads.specs.Numbers.{shownNumber, levelNumber, staleNumber};
+ghost use Rattle.reconstructor_reads.specs.Numbers.{shownTold, levelNumber, staleNumber};
 
 // How many entries were written, or 7.
 pub enum Shown {
@@ -38,7 +38,7 @@ pub enum StaleAnswer {
 
 impl Shown {
     pub fn number(self) -> u64
-        ensures { λ r. ⌜ r ≡ shownNumber self ⌝ }
+        ensures { λ r. ⌜ r ≡ shownTold self .number ⌝ }
     {
         match self {
             Shown::Entries(_) => 0,
@@ -63,7 +63,7 @@ impl StaleAnswer {
         ensures { λ r. ⌜ r ≡ staleNumber self ⌝ }
     {
         match self {
-            StaleAnswer::NotStale => 0,
+            StaleAnswer::NotStale => 256,
             StaleAnswer::Shown(shown) => shown.number(),
             StaleAnswer::Unusable(why) => why.number(),
         }

@@ -13,7 +13,7 @@ ghost use Rattle.book.specs.Rows.{ceiling};
 ghost use Rattle.reconstructor_state.specs.State.{lastOf};
 ghost use Rattle.reconstructor_checks.specs.Own.{checked};
 ghost use Rattle.reconstructor_view.specs.View.{standing, stateRead, bookView, viewed, lastSequence, bestRead, auditRead, invalidationOf, recordsTo, segmentReadTo, segmentRead};
-ghost use Rattle.reconstructor_view.specs.Numbers.{viewErrorNumber};
+ghost use Rattle.reconstructor_view.specs.Numbers.{viewErrorNumber, findingNumber, auditedTold};
 
 // Why no valid book is available: 1, 2, 3, 15, 18.
 pub enum ViewError {
@@ -60,6 +60,29 @@ impl ViewError {
             ViewError::Unusable(why) => why.number(),
             ViewError::NotBootstrapped => 15,
             ViewError::Invalidated(_) => 18,
+        }
+    }
+}
+
+fn finding_number(finding: AuditAnswer) -> u64
+    ensures { λ r. ⌜ r ≡ findingNumber finding ⌝ }
+{
+    match finding {
+        AuditAnswer::Ok => 0,
+        AuditAnswer::NotLent => 3,
+        AuditAnswer::SizeNotPositive => 3,
+        AuditAnswer::IdTwice => 3,
+        AuditAnswer::Crossed => 3,
+    }
+}
+
+impl Audited {
+    pub fn number(self) -> u64
+        ensures { λ r. ⌜ r ≡ auditedTold self .number ⌝ }
+    {
+        match self {
+            Audited::Found(finding) => finding_number(finding),
+            Audited::Refused(why) => why.number(),
         }
     }
 }

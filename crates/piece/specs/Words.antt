@@ -1,14 +1,20 @@
--- A message, a snapshot without its orders, and an order of one, as words.
+-- A message, a snapshot without its orders, and an order of one, as words; and what the readers answer.
 use Prim.Native.Nat.{ℕ}
 use mathlib.Core.List.{List, [], _∷_}
 use mir.Syntax.{w64}
 use mir.Val.{ofZ}
 use Rattle.piece.specs.Encode.{kindByte, sideByte, doneReasonByte, changeReasonByte, presentBit, optionalWord}
 use Rattle.message.specs.declared.L3Event.{L3Event}
 use Rattle.message.specs.declared.L3Event.the-variants.{Received, Open, Done, Match, Change, Unsupported}
 use Rattle.message.specs.declared.L3Message.{L3Message}
 use Rattle.message.specs.declared.L3Snapshot.{L3Snapshot}
 use Rattle.message.specs.declared.SnapshotOrder.{SnapshotOrder}
+use Rattle.message.specs.Told.{Told, told}
+use Rattle.piece.specs.declared.ReadMessage.{ReadMessage}
+use Rattle.piece.specs.declared.ReadMessage.the-variants.{Message, Refused}
+use Rattle.piece.specs.declared.ReadSnapshot.{ReadSnapshot}
+use Rattle.piece.specs.declared.ReadSnapshot.the-variants.{Snapshot, Refused as RefusedSnapshot}
+use Rattle.piece.specs.Piece.{pieceNumber}
 
 -- ---- A message: 21 words
 
@@ -59,3 +65,13 @@ snapshotWords v = v .«product_id» .high ∷ v .«product_id» .low ∷ v .sequ
 
 abbrev pub orderWords : SnapshotOrder → List ℕ
 orderWords o = o .«order_id» .high ∷ o .«order_id» .low ∷ ofZ w64 (o .price) ∷ ofZ w64 (o .size) ∷ []
+
+-- ---- The readers' answers: 4 or 5, or the value's words
+
+abbrev pub readMessageTold : ReadMessage → Told
+readMessageTold (Message m) = told 0 (messageWords m)
+readMessageTold (Refused e) = told (pieceNumber e) []
+
+abbrev pub readSnapshotTold : ReadSnapshot → Told
+readSnapshotTold (Snapshot v) = told 0 (snapshotWords v)
+readSnapshotTold (RefusedSnapshot e) = told (pieceNumber e) []
