@@ -39,7 +39,7 @@ use Rattle.reconstructor_view.specs.View.{readRefusal, viewRefusal, stateRead, 
 use Rattle.reconstructor_reads.specs.declared.Shown.the-variants.{Entries}
 use Rattle.reconstructor_reads.specs.declared.LevelAnswer.the-variants as levels
 use Rattle.reconstructor_reads.specs.declared.StaleAnswer.the-variants as stales
-use Rattle.reconstructor_reads.specs.Numbers.{levelNumber}
+use Rattle.reconstructor_reads.specs.Numbers.{levelTold}
 use Rattle.reconstructor_reads.specs.Reads.{Content, queueContent, levelsContent, Shows, shown, levelRead, scratchShort, readOf, staleRead, levelQueue, priorityProfile, staleL2}
 use Rattle.queue.specs.Estimates.{estimated, ownViewed, aheadRefusal, aheadOf}
 use Rattle.ledger.specs.Ledger.{Config}
@@ -159,7 +159,7 @@ module _ (c : Config) (r s : ℕ) (w : World) (v : View) (f : Follows c r s w v)
   scratch-away h sc = let x = away h (scratchShort (w .book) sc) in (x .0, x .1, x .2 ∙ ap (invalidNumber (c .rules) (length ws)) (short-is sc))
 
   level-away : standingOf (v .status) ≡ invalid → (k : Content) (sc out : List ℕ)
-      → levelNumber (readOf ceiling (w .book) ws sc k out .answer) ≡ invalidNumber (c .rules) (length ws) (ltb (length sc) (c .rules .«max_orders»))
+      → levelTold (readOf ceiling (w .book) ws sc k out .answer) .number ≡ invalidNumber (c .rules) (length ws) (ltb (length sc) (c .rules .«max_orders»))
   unfolding levelRead
   level-away h k sc out = let x = scratch-away h sc in rw (x .1) (x .2)
 

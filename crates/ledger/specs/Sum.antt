@@ -25,15 +25,16 @@ use Rattle.reconstructor_state.specs.State.{Lengths, lastOf}
 use Rattle.reconstructor_checks.specs.Own.{overCeiling, bookRefusal}
 use Rattle.reconstructor_bootstrap.specs.Snapshot.{snapshotLine}
 use Rattle.reconstructor_view.specs.declared.Viewed.the-variants as views
+use Rattle.reconstructor_view.specs.Numbers.{viewedTold, bestTold, auditedTold}
 use Rattle.reconstructor_view.specs.View.{lastSequence, bestRead, auditRead}
 use Rattle.reconstructor_reads.specs.declared.Shown.the-variants.{Entries}
 use Rattle.reconstructor_reads.specs.declared.LevelAnswer.the-variants as levels
 use Rattle.reconstructor_reads.specs.declared.StaleAnswer.the-variants as stales
-use Rattle.reconstructor_reads.specs.Numbers.{levelNumber}
+use Rattle.reconstructor_reads.specs.Numbers.{levelTold}
 use Rattle.reconstructor_reads.specs.Reads.{levelQueue, priorityProfile, l2, staleL2}
 use Rattle.reconstructor_reads.specs.Said.{queueSaid, profileSaid, l2Said}
 use Rattle.queue.specs.declared.QueueEstimate.{QueueEstimate}
-use Rattle.queue.specs.Numbers.{estimateNumber, aheadNumber}
+use Rattle.queue.specs.Numbers.{estimateTold, aheadTold}
 use Rattle.queue.specs.Estimates.{queueEstimate, queueEstimateOwn, volumeAhead}
 use Rattle.reconstructor_state.specs.declared.Status.{Status}
 use Rattle.reconstructor_state.specs.declared.Status.the-variants as statuses
@@ -41,7 +42,6 @@ use Rattle.ledger.specs.Ledger.{Config, Call, Figure, Ledger, blank, fre
 use Rattle.ledger.specs.World.{World, lentRows, lentSegments, run, Fits, Lendable, freshWorld, lineAt, volumeAt, queueAt}
 use Rattle.ledger.specs.Kept.{kept}
 use Rattle.ledger.specs.Counts.{timesIn, upTo, countsBy}
-use Rattle.ledger.specs.Numbers.{viewedNumber, bestNumber, auditedNumber}
 
 -- 01, The ledger: "standing (no snapshot, valid or invalid)"
 pub data Standing : Type 0 where
@@ -94,18 +94,18 @@ invalidNumber v rows short = cond (overCeiling ceiling v) 1 (cond (ltb rows (8 *
 
 -- "every read is turned away save the stale one": each by exactly that number, whatever it is asked and lent beside these rows
 pub record TurnedAway (v : VenueRules) (b : BookReconstructor) (ws : List ℕ) : Type 0 where
-  pub last-sequence : viewedNumber (lastSequence ceiling b ws) ≡ invalidNumber v (length ws) false
-  pub best : bestNumber (bestRead ceiling b ws) ≡ invalidNumber v (length ws) false
-  pub audit : auditedNumber (auditRead ceiling b ws) ≡ invalidNumber v (length ws) false
+  pub last-sequence : viewedTold (lastSequence ceiling b ws) .number ≡ invalidNumber v (length ws) false
+  pub best : bestTold (bestRead ceiling b ws) .number ≡ invalidNumber v (length ws) false
+  pub audit : auditedTold (auditRead ceiling b ws) .number ≡ invalidNumber v (length ws) false
   pub level-queue : (sc : List ℕ) (s : L3Side) (z : ℤ) (out : List ℕ)
-      → levelNumber (levelQueue ceiling b ws sc s z out .answer) ≡ invalidNumber v (length ws) (ltb (length sc) (v .«max_orders»))
+      → levelTold (levelQueue ceiling b ws sc s z out .answer) .number ≡ invalidNumber v (length ws) (ltb (length sc) (v .«max_orders»))
   pub priority-profile : (sc : List ℕ) (s : L3Side) (out : List ℕ)
-      → levelNumber (priorityProfile ceiling b ws sc s out .answer) ≡ invalidNumber v (length ws) (ltb (length sc) (v .«max_orders»))
+      → levelTold (priorityProfile ceiling b ws sc s out .answer) .number ≡ invalidNumber v (length ws) (ltb (length sc) (v .«max_orders»))
   pub level-volumes : (sc : List ℕ) (s : L3Side) (out : List ℕ)
-      → levelNumber (l2 ceiling b ws sc s out .answer) ≡ invalidNumber v (length ws) (ltb (length sc) (v .«max_orders»))
-  pub queue-estimate : (s : L3Side) (z : ℤ) (ahead : List ℕ) → estimateNumber (queueEstimate ceiling b ws s z ahead .answer) ≡ invalidNumber v (length ws) false
-  pub queue-estimate-own : (d : OrderId) → estimateNumber (queueEstimateOwn ceiling b ws d) ≡ invalidNumber v (length ws) false
-  pub volume-ahead : (q : QueueEstimate) (ahead : List ℕ) → aheadNumber (volumeAhead ceiling b ws q ahead) ≡ invalidNumber v (length ws) false
+      → levelTold (l2 ceiling b ws sc s out .answer) .number ≡ invalidNumber v (length ws) (ltb (length sc) (v .«max_orders»))
+  pub queue-estimate : (s : L3Side) (z : ℤ) (ahead : List ℕ) → estimateTold (queueEstimate ceiling b ws s z ahead .answer) .number ≡ invalidNumber v (length ws) false
+  pub queue-estimate-own : (d : OrderId) → estimateTold (queueEstimateOwn ceiling b ws d) .number ≡ invalidNumber v (length ws) false
+  pub volume-ahead : (q : QueueEstimate) (ahead : List ℕ) → aheadTold (volumeAhead ceiling b ws q ahead) .number ≡ invalidNumber v (length ws) false
 
 -- what is read of a book, lent the first n words of its rows and any scratch and output
 pub record Read (v : VenueRules) (w : World) (l : Ledger) : Type 0 where

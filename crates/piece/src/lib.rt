@@ -23,6 +23,7 @@ ghost use Rattle.message.specs.Values.{orderInRange, ordersInRange};
 ghost use Rattle.piece.specs.Piece.{pieceNumber, wordAt, amountAt, orderIdAt, productIdAt, sideOf, doneReasonOf, changeReasonOf, hasBit, optionalAt, zeroUnless};
 ghost use Rattle.piece.specs.Piece.{eventIf, readReceived, readOpen, doneShaped, readDone, readMatch, changeShaped, changeFieldsAt, changeOf, readChange, readUnsupported, readEvent, messageOf, readMessage};
 ghost use Rattle.piece.specs.Piece.{bidsAt, asksAt, snapshotShaped, orderFrom, noOrder, orderAt, ordersFrom, snapshotOf, readSnapshot};
+ghost use Rattle.piece.specs.Words.{readMessageTold, readSnapshotTold};
 
 // Why bytes are turned away.
 pub enum PieceError {
@@ -377,6 +378,7 @@ fn read_event(s: &[u8]) -> ReadEvent
 // The message that the bytes are; else 4 where they are none, then 5 where a present amount is out of range.
 pub fn read_message(bytes: &[u8]) -> ReadMessage
     ensures { λ r. ⌜ r ≡ readMessage (now (bytes .entry)) ⌝ }
+    ensures told { λ r. ⌜ readMessageTold r ≡ readMessageTold (readMessage (now (bytes .entry))) ⌝ }
 {
     // Shorter than a message's header.
     if bytes.len() < 33 {
@@ -464,6 +466,7 @@ fn orders_in_range(bytes: &[u8], n: usize) -> bool
 // The snapshot that the bytes are; else 4 where they are none, then 5 where an amount is out of range.
 pub fn read_snapshot(bytes: &[u8]) -> ReadSnapshot
     ensures { λ r. ⌜ r ≡ readSnapshot (now (bytes .entry)) ⌝ }
+    ensures told { λ r. ⌜ readSnapshotTold r ≡ readSnapshotTold (readSnapshot (now (bytes .entry))) ⌝ }
 {
     // Shorter than a snapshot without orders.
     if bytes.len() < 41 {

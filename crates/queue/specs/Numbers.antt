@@ -50,9 +50,6 @@ abbrev pub estimateTold : EstimateAnswer → Told
 estimateTold (estimates.Estimate q) = told 0 (estimateValues q)
 estimateTold (estimates.Refused e) = queueErrorTold e
 
-abbrev pub estimateNumber : EstimateAnswer → ℕ
-estimateNumber a = estimateTold a .number
-
 -- ---- a volume ahead: seven values: at_seq, volume, from_snapshot, observed, orders, the first assumption (0 BackOfVisibleQueueAtCreation, 1
 -- EntrySequenceIsPriority), and 1 where SizeDecreaseKeepsPriority is a second, else 0
 
@@ -72,6 +69,3 @@ aheadValues a =
 abbrev pub aheadTold : AheadAnswer → Told
 aheadTold (answers.Ahead a) = told 0 (aheadValues a)
 aheadTold (answers.Refused e) = queueErrorTold e
-
-abbrev pub aheadNumber : AheadAnswer → ℕ
-aheadNumber a = aheadTold a .number

@@ -25,7 +25,7 @@ ghost use Rattle.reconstructor_state.specs.State.{segmentOf};
 ghost use Rattle.queue.specs.Ahead.{rowWith, enteredAt, entriesFrom, stillAhead, before, decreasedAfter, tallyOf};
 ghost use Rattle.queue.specs.Steps.{noTally, tallyWith, tallyJoined, Small, RestsFor};
 ghost use Rattle.queue.specs.Estimates.{losesPlace, placeUnknown, estimateLeaves, queueEstimate, ownEstimate, queueEstimateOwn, tallied, ownAhead, volumeAhead};
-ghost use Rattle.queue.specs.Numbers.{queueErrorNumber, estimateNumber, aheadNumber};
+ghost use Rattle.queue.specs.Numbers.{queueErrorNumber, estimateTold, aheadTold};
 
 // A hypothesis a queue result rests on.
 pub enum Assumption {
@@ -121,7 +121,7 @@ impl QueueError {
 
 impl EstimateAnswer {
     pub fn number(self) -> u64
-        ensures { λ r. ⌜ r ≡ estimateNumber self ⌝ }
+        ensures { λ r. ⌜ r ≡ estimateTold self .number ⌝ }
     {
         match self {
             EstimateAnswer::Estimate(_) => 0,
@@ -132,7 +132,7 @@ impl EstimateAnswer {
 
 impl AheadAnswer {
     pub fn number(self) -> u64
-        ensures { λ r. ⌜ r ≡ aheadNumber self ⌝ }
+        ensures { λ r. ⌜ r ≡ aheadTold self .number ⌝ }
     {
         match self {
             AheadAnswer::Ahead(_) => 0,
@@ -327,6 +327,7 @@ pub fn queue_estimate(
     ahead: &mut [u64],
 ) -> EstimateAnswer
     ensures { λ r. ⌜ estimateLeaves r (now (ahead .exit)) ≡ queueEstimate ceiling book (now (rows .entry)) side price (now (ahead .entry)) ⌝ }
+    ensures told { λ r. ⌜ estimateTold r ≡ estimateTold (queueEstimate ceiling book (now (rows .entry)) side price (now (ahead .entry)) .answer) ⌝ }
 {
     let n = book.rows;
     let at = message::amount::size_of(price);
@@ -374,6 +375,7 @@ pub fn queue_estimate_own(
     order_id: OrderId,
 ) -> EstimateAnswer
     ensures { λ r. ⌜ r ≡ queueEstimateOwn ceiling book (now (rows .entry)) «order_id» ⌝ }
+    ensures told { λ r. ⌜ estimateTold r ≡ estimateTold (queueEstimateOwn ceiling book (now (rows .entry)) «order_id») ⌝ }
 {
     let rules = book.rules;
     let rule = rules.size_decrease;
@@ -475,6 +477,7 @@ pub fn volume_ahead(
     ahead: &[u64],
 ) -> AheadAnswer
     ensures { λ r. ⌜ r ≡ volumeAhead ceiling book (now (rows .entry)) estimate (now (ahead .entry)) ⌝ }
+    ensures told { λ r. ⌜ aheadTold r ≡ aheadTold (volumeAhead ceiling book (now (rows .entry)) estimate (now (ahead .entry))) ⌝ }
 {
     let last_seq = match reconstructor_view::valid_book(book, rows, false) {
         Viewed::Refused(why) => return AheadAnswer::Refused(QueueError::View(why)),

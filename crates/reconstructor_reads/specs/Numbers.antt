@@ -1,5 +1,4 @@
 -- What the cases of a level read's answer stand for: 01's number, and the number of entries. The entries themselves are in the lent words.
-use Prim.Native.Nat.{ℕ}
 use mathlib.Core.List.{[], _∷_}
 use Rattle.message.specs.Told.{Told, told, nothing}
 use Rattle.reconstructor_answers.specs.Numbers.{stateErrorNumber}
@@ -25,9 +24,3 @@ abbrev pub staleTold : StaleAnswer → Told
 staleTold stales.NotStale = told nothing []
 staleTold (stales.Shown a) = shownTold a
 staleTold (stales.Unusable e) = told (stateErrorNumber e) []
-
-abbrev pub levelNumber : LevelAnswer → ℕ
-levelNumber a = levelTold a .number
-
-abbrev pub staleNumber : StaleAnswer → ℕ
-staleNumber a = staleTold a .number

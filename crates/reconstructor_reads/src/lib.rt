@@ -14,7 +14,7 @@ ghost use lib.ListN.{length};
 ghost use Rattle.book.specs.Rows.{Lent, ceiling, rowsOf};
 ghost use Rattle.book.specs.Broken.{someRowBroken};
 ghost use Rattle.reconstructor_reads.specs.Reads.{queueContent, levelsContent, shows, shown, readOf, leaves, levelQueue, priorityProfile, l2, leavesStale, staleL2};
-ghost use Rattle.reconstructor_reads.specs.Numbers.{shownTold, levelNumber, staleNumber};
+ghost use Rattle.reconstructor_reads.specs.Numbers.{shownTold, levelTold, staleTold};
 
 // How many entries were written, or 7.
 pub enum Shown {
@@ -49,7 +49,7 @@ impl Shown {
 
 impl LevelAnswer {
     pub fn number(self) -> u64
-        ensures { λ r. ⌜ r ≡ levelNumber self ⌝ }
+        ensures { λ r. ⌜ r ≡ levelTold self .number ⌝ }
     {
         match self {
             LevelAnswer::Shown(shown) => shown.number(),
@@ -60,7 +60,7 @@ impl LevelAnswer {
 
 impl StaleAnswer {
     pub fn number(self) -> u64
-        ensures { λ r. ⌜ r ≡ staleNumber self ⌝ }
+        ensures { λ r. ⌜ r ≡ staleTold self .number ⌝ }
     {
         match self {
             StaleAnswer::NotStale => 256,
@@ -125,6 +125,7 @@ pub fn level_queue(
     out: &mut [u64],
 ) -> LevelAnswer
     ensures { λ r. ⌜ leaves r (now (scratch .exit)) (now (out .exit)) ≡ levelQueue ceiling book (now (rows .entry)) (now (scratch .entry)) side price (now (out .entry)) ⌝ }
+    ensures told { λ r. ⌜ levelTold r ≡ levelTold (levelQueue ceiling book (now (rows .entry)) (now (scratch .entry)) side price (now (out .entry)) .answer) ⌝ }
 {
     let rules = book.rules;
     let most = rules.max_orders;
@@ -168,6 +169,7 @@ pub fn priority_profile(
     out: &mut [u64],
 ) -> LevelAnswer
     ensures { λ r. ⌜ leaves r (now (scratch .exit)) (now (out .exit)) ≡ priorityProfile ceiling book (now (rows .entry)) (now (scratch .entry)) side (now (out .entry)) ⌝ }
+    ensures told { λ r. ⌜ levelTold r ≡ levelTold (priorityProfile ceiling book (now (rows .entry)) (now (scratch .entry)) side (now (out .entry)) .answer) ⌝ }
 {
     level_read(book, rows, scratch, side, 3, out)
 }
@@ -181,6 +183,7 @@ pub fn l2(
     out: &mut [u64],
 ) -> LevelAnswer
     ensures { λ r. ⌜ leaves r (now (scratch .exit)) (now (out .exit)) ≡ l2 ceiling book (now (rows .entry)) (now (scratch .entry)) side (now (out .entry)) ⌝ }
+    ensures told { λ r. ⌜ levelTold r ≡ levelTold (l2 ceiling book (now (rows .entry)) (now (scratch .entry)) side (now (out .entry)) .answer) ⌝ }
 {
     level_read(book, rows, scratch, side, 2, out)
 }
@@ -194,6 +197,7 @@ pub fn stale_l2(
     out: &mut [u64],
 ) -> StaleAnswer
     ensures { λ r. ⌜ leavesStale r (now (scratch .exit)) (now (out .exit)) ≡ staleL2 ceiling book (now (rows .entry)) (now (scratch .entry)) side (now (out .entry)) ⌝ }
+    ensures told { λ r. ⌜ staleTold r ≡ staleTold (staleL2 ceiling book (now (rows .entry)) (now (scratch .entry)) side (now (out .entry)) .answer) ⌝ }
 {
     let rules = book.rules;
     let most = rules.max_orders;

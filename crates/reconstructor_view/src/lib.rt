@@ -13,7 +13,7 @@ ghost use Rattle.book.specs.Rows.{ceiling};
 ghost use Rattle.reconstructor_state.specs.State.{lastOf};
 ghost use Rattle.reconstructor_checks.specs.Own.{checked};
 ghost use Rattle.reconstructor_view.specs.View.{standing, stateRead, bookView, viewed, lastSequence, bestRead, auditRead, invalidationOf, recordsTo, segmentReadTo, segmentRead};
-ghost use Rattle.reconstructor_view.specs.Numbers.{viewErrorNumber, findingNumber, auditedTold};
+ghost use Rattle.reconstructor_view.specs.Numbers.{viewErrorNumber, findingNumber, viewedTold, bestTold, auditedTold, invalidationTold, segmentTold};
 
 // Why no valid book is available: 1, 2, 3, 15, 18.
 pub enum ViewError {
@@ -131,6 +131,7 @@ pub fn valid_book(book: BookReconstructor, rows: &[u64], short: bool) -> Viewed
 // The last sequence applied.
 pub fn last_sequence(book: BookReconstructor, rows: &[u64]) -> Viewed
     ensures { λ r. ⌜ r ≡ lastSequence ceiling book (now (rows .entry)) ⌝ }
+    ensures told { λ r. ⌜ viewedTold r ≡ viewedTold (lastSequence ceiling book (now (rows .entry))) ⌝ }
 {
     valid_book(book, rows, false)
 }
@@ -138,6 +139,7 @@ pub fn last_sequence(book: BookReconstructor, rows: &[u64]) -> Viewed
 // Best bid and ask.
 pub fn best(book: BookReconstructor, rows: &[u64]) -> BestAnswer
     ensures { λ r. ⌜ r ≡ bestRead ceiling book (now (rows .entry)) ⌝ }
+    ensures told { λ r. ⌜ bestTold r ≡ bestTold (bestRead ceiling book (now (rows .entry))) ⌝ }
 {
     match valid_book(book, rows, false) {
         Viewed::Refused(why) => BestAnswer::Refused(why),
@@ -154,6 +156,7 @@ pub fn best(book: BookReconstructor, rows: &[u64]) -> BestAnswer
 // The invariants of a valid book: positive sizes, each id once, not crossed. Number 3 has recomputed them, so that nothing is left to find.
 pub fn audit(book: BookReconstructor, rows: &[u64]) -> Audited
     ensures { λ r. ⌜ r ≡ auditRead ceiling book (now (rows .entry)) ⌝ }
+    ensures told { λ r. ⌜ auditedTold r ≡ auditedTold (auditRead ceiling book (now (rows .entry))) ⌝ }
 {
     match valid_book(book, rows, false) {
         Viewed::Refused(why) => Audited::Refused(why),
@@ -164,6 +167,7 @@ pub fn audit(book: BookReconstructor, rows: &[u64]) -> Audited
 // Why the current segment is invalid, if it is.
 pub fn invalidation(book: BookReconstructor) -> InvalidationAnswer
     ensures { λ r. ⌜ r ≡ invalidationOf (book .status) ⌝ }
+    ensures told { λ r. ⌜ invalidationTold r ≡ invalidationTold (invalidationOf (book .status)) ⌝ }
 {
     let status = book.status;
     match status {
@@ -203,7 +207,7 @@ pub fn segment_by_value(
 
 // The record of the segment at a place of the list. With the counts, which are a field of the book, it makes up the Rust's manifest.
 pub fn segment(book: BookReconstructor, segments: &[Segment], place: usize) -> SegmentAnswer
-    ensures { λ r. ⌜ r ≡ segmentRead book (now (segments .entry)) place ⌝ }
+    ensures { λ r. ⌜ (r ≡ segmentRead book (now (segments .entry)) place) × (segmentTold r ≡ segmentTold (segmentRead book (now (segments .entry)) place)) ⌝ }
 {
     let count = records_to(place);
     let record = reconstructor_segments::last_segment(segments, count);

@@ -1,2 +1,3 @@
+pub mod E
 pub mod Snapshots
 pub mod Stars

@@ -1,84 +1,27 @@
--- The book E of 01, and the examples of its table that a snapshot can meet, computed from bytes on. E is the book of product P, limits 3 and 3,
--- snapshot at 100: buy A price 10 size 2, sell B price 12 size 3.
+-- The examples of 01's table that a snapshot can meet, computed from bytes on.
 use Prim.Native.Nat.{ℕ}
 use mathlib.Core.Path.{_≡_}
 use mathlib.Core.List.{List, [], _∷_, _++_}
-use lib.IntN.{ℤ, pos, negsuc}
+use lib.IntN.{pos, negsuc}
 use lib.ListN.{replicate, take, set}
-use Rattle.message.specs.declared.ProductId.{ProductId}
 use Rattle.message.specs.declared.SnapshotOrder.{SnapshotOrder}
-use Rattle.piece.specs.Encode.{snapshotBytes}
 use Rattle.book.specs.Rows.{ceiling}
 use Rattle.reconstructor_segments.specs.declared.Segment.{Segment}
 use Rattle.reconstructor_state.specs.declared.Status.the-variants.{Valid}
-use Rattle.reconstructor_state.specs.declared.BookReconstructor.{BookReconstructor}
 use Rattle.reconstructor_counts.specs.Counts.{noCounts, countedAt}
-use Rattle.reconstructor_state.specs.State.{limitedRules, newBook, withCounts}
+use Rattle.reconstructor_state.specs.State.{limitedRules, withCounts}
 use Rattle.reconstructor_bootstrap.specs.declared.SnapshotError.the-variants.{Crossed}
 use Rattle.reconstructor_bootstrap.specs.declared.SnapshotAnswer.the-variants.{Bootstrapped, Rejected}
-use Rattle.reconstructor_bootstrap.specs.Numbers.{snapshotNumber}
-use Rattle.reconstructor_bootstrap.specs.Bootstrap.{Parts, bootedBook, bootstrapped}
-
-abbrev productP : ProductId
-productP = record { high = 80; low = 0 }
-
-abbrev productQ : ProductId
-productQ = record { high = 81; low = 0 }
-
-abbrev order : ℕ → ℤ → ℤ → SnapshotOrder
-order id price size = record { «order_id» = record { high = 0; low = id }; price = price; size = size }
-
-abbrev orderA : SnapshotOrder
-orderA = order 1 (pos 10) (pos 2)
-
-abbrev orderB : SnapshotOrder
-orderB = order 2 (pos 12) (pos 3)
-
-abbrev piece : ProductId → ℕ → List SnapshotOrder → List SnapshotOrder → List ℕ
-piece product sequence bids asks =
-    snapshotBytes (record { «product_id» = product; sequence = sequence; bids = bids; asks = asks })
-
--- before any snapshot, with words and records of any contents in its memory
-abbrev fresh : ℕ → ℕ → BookReconstructor
-fresh orders levels = newBook productP (limitedRules orders levels) 1
-
-abbrev any : List ℕ
-any = replicate 24 7
-
--- a segment's record: start_seq, last_good_seq, the four fields of its end, first_us and last_us
-abbrev pub segment : ℕ → ℕ → ℕ → ℕ → ℕ → ℕ → ℕ → ℕ → Segment
-segment start good end endGood endSeq detail first last =
-    record {
-      «start_seq» = start;
-      «last_good_seq» = good;
-      end = end;
-      «end_good» = endGood;
-      «end_seq» = endSeq;
-      «end_detail» = detail;
-      «first_us» = first;
-      «last_us» = last;
-    }
-
-abbrev anyRecord : Segment
-anyRecord = segment 7 7 7 7 7 7 7 7
-
--- ---- E
-
-abbrev bookE : BookReconstructor
-bookE = bootedBook (fresh 3 3) 100 2
-
-abbrev rowsE : List ℕ
-rowsE = 0 ∷ 1 ∷ 10 ∷ 2 ∷ 0 ∷ 100 ∷ 0 ∷ 0 ∷ 0 ∷ 2 ∷ 12 ∷ 3 ∷ 1 ∷ 100 ∷ 0 ∷ 0 ∷ replicate 8 7
-
-abbrev segmentsE : List Segment
-segmentsE = segment 100 100 0 0 0 0 0 0 ∷ anyRecord ∷ []
+use Rattle.reconstructor_bootstrap.specs.Numbers.{snapshotTold}
+use Rattle.reconstructor_bootstrap.specs.Bootstrap.{Parts, bootstrapped}
+use Rattle.stars.specs.E.{productP, productQ, order, orderA, orderB, piece, fresh, segment, anyRows, anyRecord, snapshotAt, bookE, rowsE, segmentsE}
 
 -- a call on E, and what becomes of E
 abbrev onE : List Segment → List ℕ → Parts
 onE sg bytes = bootstrapped ceiling bookE rowsE sg bytes
 
 abbrev number : Parts → ℕ
-number p = snapshotNumber (p .answer)
+number p = snapshotTold (p .answer) .number
 
 -- the number that a snapshot of P at 101 gets on E, by its bids and asks
 abbrev numberE : List SnapshotOrder → List SnapshotOrder → ℕ
@@ -87,18 +30,17 @@ numberE bids asks = number (onE segmentsE (piece productP 101 bids asks))
 -- the same of a fresh book with limits of its own
 abbrev numberFresh : ℕ → ℕ → List SnapshotOrder → List SnapshotOrder → ℕ
 numberFresh orders levels bids asks =
-    number (bootstrapped ceiling (fresh orders levels) any (replicate 3 anyRecord) (piece productP 100 bids asks))
+    number (bootstrapped ceiling (fresh orders levels) anyRows (replicate 3 anyRecord) (piece productP 100 bids asks))
 
 pub record Examples : Type 0 where
   -- E is what its snapshot makes of a fresh book
-  pub made : bootstrapped ceiling (fresh 3 3) any (replicate 2 anyRecord) (piece productP 100 (orderA ∷ []) (orderB ∷ []))
-      ≡ record { answer = Bootstrapped; book = bookE; rows = rowsE; segments = segmentsE }
+  pub made : snapshotAt 100 ≡ record { answer = Bootstrapped; book = bookE; rows = rowsE; segments = segmentsE }
   -- a second one supersedes its segment and zeroes the row that it no longer needs
   pub again : onE segmentsE (piece productP 90 [] (orderA ∷ []))
       ≡ record {
         answer = Bootstrapped;
         book = record { «product_id» = productP; rules = limitedRules 3 3; number = 1; status = Valid 90; rows = 1; segments = 2; counts = noCounts };
-        rows = 0 ∷ 1 ∷ 10 ∷ 2 ∷ 1 ∷ 90 ∷ 0 ∷ 0 ∷ replicate 8 0 ++ replicate 8 7;
+        rows = 0 ∷ 1 ∷ 10 ∷ 2 ∷ 1 ∷ 90 ∷ 0 ∷ 0 ∷ replicate 8 0 ++ replicate 9 7;
         segments = segment 100 100 1 0 0 0 0 0 ∷ segment 90 90 0 0 0 0 0 0 ∷ [];
       }
   -- 13*: a refused one ends no good segment

@@ -2,8 +2,12 @@
 -- and the figures C1, C2 and C3. Snapshots.antt has those that a snapshot can meet.
 use Prim.Native.Nat.{ℕ}
 use mathlib.Core.Path.{_≡_}
-use mathlib.Core.List.{List, [], _∷_, _++_, map}
+use mathlib.Core.Bool.{Bool, true, false, cond}
+use mathlib.Core.List.{List, [], _∷_, map}
+use lib.Dec.{eqb}
 use lib.IntN.{pos}
+use lib.ListN.{getD, replicate, set, take}
+use Rattle.message.specs.Told.{Told, told}
 use Rattle.message.specs.declared.OrderId.{OrderId}
 use Rattle.message.specs.declared.ProductId.{ProductId}
 use Rattle.message.specs.declared.L3Side.the-variants.{Buy, Sell}
@@ -15,68 +19,33 @@ use Rattle.message.specs.declared.L3Event.the-variants.{Received, Open, Done, M
 use Rattle.message.specs.declared.L3Message.{L3Message}
 use Rattle.book.specs.Line.{volume}
 use Rattle.book.specs.Rows.{ceiling, rowsOf, lineOf}
+use Rattle.reconstructor_counts.specs.Counts.{largest}
 use Rattle.reconstructor_segments.specs.declared.Segment.{Segment}
-use Rattle.reconstructor_state.specs.declared.Status.{Status}
-use Rattle.reconstructor_state.specs.declared.Status.the-variants.{Empty, Valid}
-use Rattle.reconstructor_answers.specs.declared.ApplyAnswer.{ApplyAnswer}
+use Rattle.reconstructor_state.specs.declared.Status.the-variants.{Valid}
 use Rattle.reconstructor_state.specs.declared.BookReconstructor.{BookReconstructor}
-use Rattle.reconstructor_counts.specs.Counts.{largest, noCounts}
-use Rattle.reconstructor_answers.specs.Numbers.{kindNumber, answerNumber}
-use Rattle.reconstructor_state.specs.State.{limitedRules}
-use Rattle.reconstructor.specs.Applied.{Parts, applied}
 use Rattle.reconstructor_answers.specs.declared.ApplyAnswer.the-variants as answers
 use Rattle.reconstructor_answers.specs.declared.Applied.the-variants.{NoBookEffect}
-use mathlib.Core.Bool.{Bool, true, false}
+use Rattle.reconstructor_answers.specs.Numbers.{answerTold}
+use Rattle.reconstructor.specs.Applied.{Parts, applied}
+use Rattle.reconstructor_bootstrap.specs.Bootstrap.{Parts as SnapshotParts, bootedBook, bootstrapped}
 use Rattle.reconstructor_handshake.specs.declared.Handshake.{Handshake}
 use Rattle.reconstructor_handshake.specs.declared.StepAnswer.{StepAnswer}
 use Rattle.reconstructor_handshake.specs.declared.StepAnswer.the-variants.{Stepped, Dropped, OtherSegment}
 use Rattle.reconstructor_handshake.specs.Step.{StepParts, stepped}
-use Rattle.reconstructor_view.specs.declared.Audited.{Audited}
-use Rattle.reconstructor_view.specs.declared.Audited.the-variants as audits
-use Rattle.reconstructor_view.specs.Numbers.{viewErrorNumber}
+use Rattle.reconstructor_view.specs.Numbers.{auditedTold}
 use Rattle.reconstructor_view.specs.View.{auditRead}
-use Rattle.reconstructor_reads.specs.Numbers.{levelNumber}
+use Rattle.reconstructor_reads.specs.Numbers.{levelTold}
 use Rattle.reconstructor_reads.specs.Reads.{levelQueue, l2}
 use Rattle.queue.specs.declared.Assumption.the-variants.{EntrySequenceIsPriority}
-use Rattle.queue.specs.declared.Anchor.the-variants.{Hypothetical}
-use Rattle.queue.specs.declared.QueueEstimate.{QueueEstimate}
 use Rattle.queue.specs.declared.QueueAhead.{QueueAhead}
 use Rattle.queue.specs.declared.EstimateAnswer.{EstimateAnswer}
 use Rattle.queue.specs.declared.EstimateAnswer.the-variants as estimates
 use Rattle.queue.specs.declared.AheadAnswer.{AheadAnswer}
 use Rattle.queue.specs.declared.AheadAnswer.the-variants as queues
-use Rattle.queue.specs.Numbers.{estimateNumber, aheadNumber}
-use Rattle.stars.specs.Snapshots.{segment, Examples}
-use Rattle.queue.specs.Estimates.{queueEstimateOwn, volumeAhead}
-
--- ---- E: "the book of product P, limits 3 and 3, snapshot at 100: buy A price 10 size 2, sell B price 12 size 3 (units)"
-
-abbrev product : ℕ → ProductId
-product k = record { high = k; low = 0 }
-
--- a state of product P with a status, limits and so many rows and segments
-abbrev book : Status → ℕ → ℕ → ℕ → BookReconstructor
-book s limit rows segments =
-    record {
-      «product_id» = product 80;
-      rules = limitedRules limit limit;
-      number = 1;
-      status = s;
-      rows = rows;
-      segments = segments;
-      counts = noCounts;
-    }
-
--- 23 words: A at a price, then B, and words past the last row
-abbrev short : ℕ → List ℕ
-short price =
-    0 ∷ 1 ∷ price ∷ 2 ∷ 0 ∷ 100 ∷ 0 ∷ 0 ∷ 0 ∷ 2 ∷ 12 ∷ 3 ∷ 1 ∷ 100 ∷ 0 ∷ 0 ∷ 7 ∷ 7 ∷ 7 ∷ 7 ∷ 7 ∷ 7 ∷ 7 ∷ []
-
-abbrev rowsE : List ℕ
-rowsE = short 10 ++ (7 ∷ 9 ∷ [])
-
-abbrev listE : List Segment
-listE = segment 100 100 0 0 0 0 0 0 ∷ []
+use Rattle.queue.specs.Numbers.{estimateTold, aheadTold}
+use Rattle.queue.specs.Estimates.{EstimateParts, queueEstimate, queueEstimateOwn, volumeAhead}
+use Rattle.stars.specs.E.{productP, productQ, orderA, orderB, piece, fresh, segment, anyRecord, snapshotAt, bookE, rowsE, segmentsE}
+use Rattle.stars.specs.Snapshots.{Examples}
 
 abbrev id : ℕ → OrderId
 id k = record { high = 0; low = k }
@@ -91,11 +60,11 @@ abbrev z : OrderId
 z = id 26
 
 -- a message of a product, at a sequence
-abbrev of : ℕ → ℕ → L3Event → L3Message
-of p seq e = record { «product_id» = product p; sequence = seq; «time_us» = 5; event = e }
+abbrev of : ProductId → ℕ → L3Event → L3Message
+of p seq e = record { «product_id» = p; sequence = seq; «time_us» = 5; event = e }
 
 abbrev at : ℕ → L3Event → L3Message
-at seq e = of 80 seq e
+at seq e = of productP seq e
 
 -- "Events are at 101 unless said"
 abbrev at101 : L3Event → L3Message
@@ -113,22 +82,29 @@ pub record Call : Type 0 where
 abbrev after : Call → Parts
 after c = applied ceiling (c .book) (c .rows) (c .list) (c .message)
 
+-- a state and rows, with E's list
+abbrev given : BookReconstructor → List ℕ → L3Message → Call
+given b ws m = record { book = b; rows = ws; list = segmentsE; message = m }
+
 abbrev onE : L3Message → Call
-onE m = record { book = book (Valid 100) 3 2 1; rows = rowsE; list = listE; message = m }
+onE m = given bookE rowsE m
 
 -- what one call left, with the next message
 abbrev next : Call → L3Message → Call
 next c m = record { book = after c .book; rows = after c .rows; list = after c .segments; message = m }
 
--- the answer's number, and of 16 its reason's
-abbrev number : ApplyAnswer → ℕ
-number (answers.Applied x) = 0
-number (answers.Unusable e) = answerNumber (answers.Unusable e)
-number answers.AmountOutOfRange = 5
-number answers.WrongProduct = 10
-number answers.NotBootstrapped = 15
-number (answers.Invalidated i) = kindNumber (i .kind)
-number (answers.AwaitingSnapshot i) = 17
+-- what a snapshot left, with the next message
+abbrev then : SnapshotParts → L3Message → Call
+then p m = record { book = p .book; rows = p .rows; list = p .segments; message = m }
+
+-- what a call was told
+abbrev toldOf : Call → Told
+toldOf c = answerTold (after c .answer)
+
+-- its number in the table: "Results 20 to 44 invalidate: the answer is 16 with the last good sequence, the offending one and the reason", so of 16 the third
+-- value
+abbrev numberOf : Told → ℕ
+numberOf t = cond (eqb (t .number) 16) (getD (t .values) 2 0) (t .number)
 
 -- a change of A to a size
 abbrev changed : ℕ → L3Event
@@ -136,6 +112,13 @@ changed n = Change a Buy Stp Absent Absent (Given (pos n)) Absent Absent Absent
 
 abbrev opened : Call
 opened = onE (at101 (Open o Buy (pos 10) (pos 5)))
+
+-- above last + 1, and at last
+abbrev gap : Call
+gap = onE (at 102 (Received z Buy))
+
+abbrev behind : Call
+behind = onE (at 100 (Received z Buy))
 
 -- a row of 01's table: its number, and the example beside it
 pub record Row : Type 0 where
@@ -147,16 +130,16 @@ row n c = record { number = n; example = c }
 
 abbrev table : List Row
 table =
-    row 1 (record { book = book (Valid 100) 4097 2 1; rows = rowsE; list = listE; message = at101 (Received z Buy) }) ∷
-    row 2 (record { book = book (Valid 100) 3 2 1; rows = short 10; list = listE; message = at101 (Received z Buy) }) ∷
-    row 3 (record { book = book (Valid 100) 3 2 1; rows = short 0 ++ (7 ∷ []); list = listE; message = at101 (Received z Buy) }) ∷
+    row 1 (given (bootedBook (fresh 4097 3) 100 2) rowsE (at101 (Received z Buy))) ∷
+    row 2 (given bookE (take 23 rowsE) (at101 (Received z Buy))) ∷
+    row 3 (given bookE (set rowsE 2 0) (at101 (Received z Buy))) ∷
     row 5 (onE (at101 (Open o Buy (pos 1000000000000001) (pos 1)))) ∷
-    row 10 (onE (of 81 101 (Open o Buy (pos 10) (pos 1)))) ∷
-    row 15 (record { book = book Empty 3 0 0; rows = rowsE; list = []; message = at101 (Open o Buy (pos 10) (pos 1)) }) ∷
+    row 10 (onE (of productQ 101 (Open o Buy (pos 10) (pos 1)))) ∷
+    row 15 (given (fresh 3 3) rowsE (at101 (Open o Buy (pos 10) (pos 1)))) ∷
     row 17 (next (onE (at101 (Unsupported 7))) (at101 (Unsupported 7))) ∷
-    row 20 (onE (at 102 (Received z Buy))) ∷
-    row 21 (onE (at 100 (Received z Buy))) ∷
-    row 22 (record { book = book (Valid largest) 3 2 1; rows = rowsE; list = listE; message = at 0 (Received z Buy) }) ∷
+    row 20 gap ∷
+    row 21 behind ∷
+    row 22 (then (snapshotAt largest) (at 0 (Received z Buy))) ∷
     row 30 (onE (at101 (Match z o Buy (pos 10) (pos 1)))) ∷
     row 31 (onE (at101 (Match z a Buy (pos 10) (pos 1)))) ∷
     row 32 (onE (at101 (Match a z Buy (pos 11) (pos 1)))) ∷
@@ -181,7 +164,7 @@ abbrev handshake : ℕ → Bool → Handshake
 handshake number ended = record { segment = record { number = number; place = 0 }; ended = ended; applied = 0 }
 
 abbrev stepE : Handshake → L3Message → StepParts
-stepE h m = stepped ceiling h (book (Valid 100) 3 2 1) rowsE listE m
+stepE h m = stepped ceiling h bookE rowsE segmentsE m
 
 -- "step after 16": what the first step left, stepped again
 abbrev again : StepParts → L3Message → StepParts
@@ -202,10 +185,6 @@ steps =
 abbrev scratch : List ℕ
 scratch = 5 ∷ 5 ∷ 5 ∷ []
 
--- E after a gap
-abbrev gap : Call
-gap = onE (at 102 (Received z Buy))
-
 abbrev own : BookReconstructor → List ℕ → OrderId → EstimateAnswer
 own b ws d = queueEstimateOwn ceiling b ws d
 
@@ -214,23 +193,32 @@ abbrev aheadFrom : BookReconstructor → List ℕ → EstimateAnswer → List �
 aheadFrom b ws (estimates.Estimate q) l = volumeAhead ceiling b ws q l
 aheadFrom b ws (estimates.Refused e) l = queues.Refused e
 
-abbrev auditNumber : Audited → ℕ
-auditNumber (audits.Found a) = 0
-auditNumber (audits.Refused e) = viewErrorNumber e
+-- a hypothetical order's estimate on E, with the order ahead in its list
+abbrev guess : EstimateParts
+guess = queueEstimate ceiling bookE rowsE Buy (pos 10) (replicate 3 7)
 
--- a hypothetical order's estimate on E, with one order ahead, of a segment's place
-abbrev guess : ℕ → QueueEstimate
-guess place = record { side = Buy; price = pos 10; segment = record { number = 1; place = place }; anchor = Hypothetical 1 100 }
+-- a new snapshot of A and B, on a state and its memory
+abbrev renewed : BookReconstructor → List ℕ → List Segment → SnapshotParts
+renewed b ws sg = bootstrapped ceiling b ws sg (piece productP 200 (orderA ∷ []) (orderB ∷ []))
 
-abbrev reads : List ℕ
+-- on E, and on what the open of C left
+abbrev newE : SnapshotParts
+newE = renewed bookE rowsE segmentsE
+
+abbrev newOpened : SnapshotParts
+newOpened = renewed (after opened .book) (after opened .rows) (after opened .segments)
+
+-- 7, 8, 15, 18; 50 of either estimate; 51, 52
+abbrev reads : List Told
 reads =
-    levelNumber (levelQueue ceiling (onE (at101 (Received z Buy)) .book) rowsE scratch Buy (pos 10) [] .answer) ∷
-    aheadNumber (volumeAhead ceiling (onE (at101 (Received z Buy)) .book) rowsE (guess 0) (0 ∷ 1 ∷ [])) ∷
-    levelNumber (l2 ceiling (book Empty 3 0 0) rowsE scratch Buy [] .answer) ∷
-    auditNumber (auditRead ceiling (after gap .book) (after gap .rows)) ∷
-    aheadNumber (volumeAhead ceiling (book (Valid 100) 3 2 2) rowsE (guess 0) (0 ∷ 1 ∷ 100 ∷ [])) ∷
-    estimateNumber (own (onE (at101 (Received z Buy)) .book) rowsE a) ∷
-    estimateNumber (own (onE (at101 (Received z Buy)) .book) rowsE z) ∷
+    levelTold (levelQueue ceiling bookE rowsE scratch Buy (pos 10) [] .answer) ∷
+    aheadTold (aheadFrom bookE rowsE (guess .answer) (take 2 (guess .ahead))) ∷
+    levelTold (l2 ceiling (fresh 3 3) rowsE scratch Buy [] .answer) ∷
+    auditedTold (auditRead ceiling (after gap .book) (after gap .rows)) ∷
+    aheadTold (aheadFrom (newE .book) (newE .rows) (guess .answer) (guess .ahead)) ∷
+    aheadTold (aheadFrom (newOpened .book) (newOpened .rows) (own (after opened .book) (after opened .rows) o) []) ∷
+    estimateTold (own bookE rowsE a) ∷
+    estimateTold (own bookE rowsE z) ∷
     []
 
 -- ---- C1, C2, C3
@@ -256,19 +244,22 @@ figure at volume orders =
 
 pub record Stars : Type 0 where
   -- every example of the table gives its number: of messages, of snapshots, of steps, of reads
-  pub numbers : map (λ (r : Row). number (after (r .example) .answer)) table ≡ map (λ (r : Row). r .number) table
+  pub numbers : map (λ (r : Row). numberOf (toldOf (r .example))) table ≡ map (λ (r : Row). r .number) table
+  -- 16 "with the last good sequence, the offending one and the reason": of 20 what was expected and what came, of 21 the last one and what came
+  pub gap : toldOf gap ≡ told 16 (100 ∷ 102 ∷ 20 ∷ 101 ∷ 102 ∷ 0 ∷ [])
+  pub behind : toldOf behind ≡ told 16 (100 ∷ 100 ∷ 21 ∷ 100 ∷ 100 ∷ 0 ∷ [])
   pub snapshots : Examples
   pub steps : steps ≡ OtherSegment ∷ OtherSegment ∷ OtherSegment ∷ Dropped ∷ Stepped (answers.Applied NoBookEffect) ∷ []
-  pub reads : reads ≡ 7 ∷ 8 ∷ 15 ∷ 18 ∷ 50 ∷ 51 ∷ 52 ∷ []
+  pub reads : map (λ (t : Told). t .number) reads ≡ 7 ∷ 8 ∷ 15 ∷ 18 ∷ 50 ∷ 50 ∷ 51 ∷ 52 ∷ []
   -- C1: "E, open C buy 10 size 5 at 101: own estimate of C gives volume 2, from snapshot 2, observed 0, orders 1"
   pub c1 : aheadFrom (after opened .book) (after opened .rows) (own (after opened .book) (after opened .rows) o) [] ≡ queues.Ahead (figure 101 2 1)
   -- C2: "E, open C buy 10 size 5 at 101 .. then match A size 2 at 102, taker Z: level 10 totals 5"
   pub c2 : volume Buy 10 (lineOf (rowsOf (after matched .rows) (after matched .book .rows))) ≡ 5
   -- "C has 0 ahead", by the estimate that was made before the match
   pub c2-ahead : aheadFrom (after matched .book) (after matched .rows) (own (after opened .book) (after opened .rows) o) [] ≡ queues.Ahead (figure 102 0 0)
-  -- and the words: B and C move down, the freed row is zeroed, the words past it are untouched, the segment is good to 102
-  pub c2-rows : after matched .rows ≡ 0 ∷ 2 ∷ 12 ∷ 3 ∷ 1 ∷ 100 ∷ 0 ∷ 0 ∷ 0 ∷ 3 ∷ 10 ∷ 5 ∷ 2 ∷ 101 ∷ 0 ∷ 0 ∷ 0 ∷ 0 ∷ 0 ∷ 0 ∷ 0 ∷ 0 ∷ 0 ∷ 0 ∷ 9 ∷ []
-  pub c2-list : after matched .segments ≡ segment 100 102 0 0 0 0 5 5 ∷ []
+  -- and the words: B and C move down, the freed row is zeroed, the word past it is untouched, the segment is good to 102
+  pub c2-rows : after matched .rows ≡ 0 ∷ 2 ∷ 12 ∷ 3 ∷ 1 ∷ 100 ∷ 0 ∷ 0 ∷ 0 ∷ 3 ∷ 10 ∷ 5 ∷ 2 ∷ 101 ∷ 0 ∷ 0 ∷ 0 ∷ 0 ∷ 0 ∷ 0 ∷ 0 ∷ 0 ∷ 0 ∷ 0 ∷ 7 ∷ []
+  pub c2-list : after matched .segments ≡ segment 100 102 0 0 0 0 5 5 ∷ anyRecord ∷ []
   -- C3: "done canceled for Z at 101 changes no row, yet 101 is applied"
   pub c3-rows : after canceled .rows ≡ rowsE
   pub c3-applied : after canceled .book .status ≡ Valid 101

@@ -1,3 +1,4 @@
+use mathlib.Core.Path.{refl}
 use denote.Ref.{now}
 use borrow.Author.Tests.{not-true, not-false}
 use borrow.Author.Needs.{needs}
@@ -8,11 +9,11 @@ use Rattle.piece.proofs.read_snapshot.Tie as tie
 
 returns : tie.Need-returns
 unfolding readSnapshot
-returns c = rw (short-snapshot (now (c .before .before .args .bytes)) (c .if1 .taken))
+returns c = rw (short-snapshot (now (c .before .before .args .bytes)) (c .if1 .taken)) (refl, refl)
 
 returns-2 : tie.Need-returns-2
 unfolding readSnapshot
-returns-2 c = rw (← c .before .snapshot-shaped .ensures, not-true (c .before .snapshot-shaped .result) (c .if2 .taken))
+returns-2 c = rw (← c .before .snapshot-shaped .ensures, not-true (c .before .snapshot-shaped .result) (c .if2 .taken)) (refl, refl)
 
 returns-3 : tie.Need-returns-3
 unfolding readSnapshot snapshotOf bidsAt asksAt
@@ -27,7 +28,7 @@ returns-3 c =
       c .before .read-product-id .ensures,
       c .before .before .before .before .read-le322 .ensures .0,
       c .before .before .before .before .before .read-le32 .ensures .0,
-    )
+    ) (refl, refl)
 
 returns-4 : tie.Need-returns-4
 unfolding readSnapshot snapshotOf bidsAt asksAt
@@ -38,7 +39,7 @@ returns-4 c =
       not-false (c .before .before .before .before .before .snapshot-shaped .result) (c .before .before .before .before .if2 .left),
       ← orders,
       c .if3 .left,
-    )
+    ) (refl, refl)
 
 pub read-snapshot-spec : {M : Type 1} → statement M
 read-snapshot-spec =

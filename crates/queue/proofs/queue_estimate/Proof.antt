@@ -1,4 +1,4 @@
-use mathlib.Core.Path.{_≡_, sym}
+use mathlib.Core.Path.{_≡_, refl, sym}
 use native.Mathlib.Omega.{arith}
 use borrow.Author.Tests.{lt-ltb, le-ltb}
 use lib.ListN.{length}
@@ -37,7 +37,7 @@ returns c =
     let k-valid-book = k-last-seq .before .before in
     let k-size-of = k-valid-book .before in
     let k-start = k-size-of .before .before .before in
-    let v = view-valid (bookView ceiling (k-start .args .book) (k-start .args .rows .now) false) (lastOf (k-start .args .book .status)) _ _ (k-valid-book .valid-book .ensures) (k-last-seq .last-seq .given .1) in let e : length (rowsAt (k-start .args .side) (k-size-of .size-of .result) (rowsOf (k-start .args .rows .now) (k-start .args .book .rows))) ≡ c .before .order-count .result = sym (c .before .order-count .ensures) in let z = sized (k-start .args .price) (k-size-of .size-of .ensures) (k-start .fits .price) in rw (v .0, ← z, lt-ltb (length (k-start .args .ahead .now)) (length (entriesWords Ahead (rowsAt (k-start .args .side) (k-size-of .size-of .result) (rowsOf (k-start .args .rows .now) (k-start .args .book .rows))))) (omega (arith, e, width-entries Ahead (rowsAt (k-start .args .side) (k-size-of .size-of .result) (rowsOf (k-start .args .rows .now) (k-start .args .book .rows))), c .if1 .taken)))
+    let v = view-valid (bookView ceiling (k-start .args .book) (k-start .args .rows .now) false) (lastOf (k-start .args .book .status)) _ _ (k-valid-book .valid-book .ensures) (k-last-seq .last-seq .given .1) in let e : length (rowsAt (k-start .args .side) (k-size-of .size-of .result) (rowsOf (k-start .args .rows .now) (k-start .args .book .rows))) ≡ c .before .order-count .result = sym (c .before .order-count .ensures) in let z = sized (k-start .args .price) (k-size-of .size-of .ensures) (k-start .fits .price) in rw (v .0, ← z, lt-ltb (length (k-start .args .ahead .now)) (length (entriesWords Ahead (rowsAt (k-start .args .side) (k-size-of .size-of .result) (rowsOf (k-start .args .rows .now) (k-start .args .book .rows))))) (omega (arith, e, width-entries Ahead (rowsAt (k-start .args .side) (k-size-of .size-of .result) (rowsOf (k-start .args .rows .now) (k-start .args .book .rows))), c .if1 .taken))) (refl, refl)
 
 write-orders-requires : tie.Need-write-orders-requires
 write-orders-requires c κs =
@@ -52,7 +52,7 @@ unfolding estimated
 returns-2 c =
     let k-valid-book = c .before .before .before in
     let k-start = k-valid-book .before .before .before .before in
-    rw (view-refused (bookView ceiling (k-start .args .book) (k-start .args .rows .now) false) (lastOf (k-start .args .book .status)) _ _ (k-valid-book .valid-book .ensures) (c .before .why .given .1))
+    rw (view-refused (bookView ceiling (k-start .args .book) (k-start .args .rows .now) false) (lastOf (k-start .args .book .status)) _ _ (k-valid-book .valid-book .ensures) (c .before .why .given .1)) (refl, refl)
 
 returns-3 : tie.Need-returns-3
 unfolding estimated
@@ -64,7 +64,7 @@ returns-3 c =
     let k-valid-book = k-last-seq .before .before in
     let k-size-of = k-valid-book .before in
     let k-start = k-size-of .before .before .before in
-    let v = view-valid (bookView ceiling (k-start .args .book) (k-start .args .rows .now) false) (lastOf (k-start .args .book .status)) _ _ (k-valid-book .valid-book .ensures) (k-last-seq .last-seq .given .1) in let e : length (rowsAt (k-start .args .side) (k-size-of .size-of .result) (rowsOf (k-start .args .rows .now) (k-start .args .book .rows))) ≡ k-order-count .order-count .result = sym (k-order-count .order-count .ensures) in let z = sized (k-start .args .price) (k-size-of .size-of .ensures) (k-start .fits .price) in rw (v .0, ← z, le-ltb (length (k-start .args .ahead .now)) (length (entriesWords Ahead (rowsAt (k-start .args .side) (k-size-of .size-of .result) (rowsOf (k-start .args .rows .now) (k-start .args .book .rows))))) (omega (arith, e, width-entries Ahead (rowsAt (k-start .args .side) (k-size-of .size-of .result) (rowsOf (k-start .args .rows .now) (k-start .args .book .rows))), k-if1 .if1 .left)), k-write-orders .write-orders .ensures, c .segment-name .ensures, e, v .1, back (k-start .args .price) (k-start .fits .price .sfits))
+    let v = view-valid (bookView ceiling (k-start .args .book) (k-start .args .rows .now) false) (lastOf (k-start .args .book .status)) _ _ (k-valid-book .valid-book .ensures) (k-last-seq .last-seq .given .1) in let e : length (rowsAt (k-start .args .side) (k-size-of .size-of .result) (rowsOf (k-start .args .rows .now) (k-start .args .book .rows))) ≡ k-order-count .order-count .result = sym (k-order-count .order-count .ensures) in let z = sized (k-start .args .price) (k-size-of .size-of .ensures) (k-start .fits .price) in rw (v .0, ← z, le-ltb (length (k-start .args .ahead .now)) (length (entriesWords Ahead (rowsAt (k-start .args .side) (k-size-of .size-of .result) (rowsOf (k-start .args .rows .now) (k-start .args .book .rows))))) (omega (arith, e, width-entries Ahead (rowsAt (k-start .args .side) (k-size-of .size-of .result) (rowsOf (k-start .args .rows .now) (k-start .args .book .rows))), k-if1 .if1 .left)), k-write-orders .write-orders .ensures, c .segment-name .ensures, e, v .1, back (k-start .args .price) (k-start .fits .price .sfits)) (refl, refl)
 
 pub queue-estimate-spec : {M : Type 1} → statement M
 queue-estimate-spec =

@@ -1,3 +1,4 @@
+use mathlib.Core.Path.{refl}
 use Rattle.queue.specs.Estimates.{ownViewed}
 use Rattle.queue.proofs.Ahead.{with-sound, price-most}
 use mathlib.Core.Bool.{false}
@@ -20,7 +21,7 @@ returns c =
     let k-enum-told = c .before .before .before in
     let k-valid-book = k-enum-told .before .before in
     let k-start = k-valid-book .before .before .before in
-    let v = view-valid (bookView ceiling (k-start .args .book) (k-start .args .rows .now) false) (lastOf (k-start .args .book .status)) _ _ (k-valid-book .valid-book .ensures) (k-enum-told .enum-told .given .1) in let w = rw (c .enum-told2 .given .1) at (c .before .before .resting .ensures) in rw (v .0, w)
+    let v = view-valid (bookView ceiling (k-start .args .book) (k-start .args .rows .now) false) (lastOf (k-start .args .book .status)) _ _ (k-valid-book .valid-book .ensures) (k-enum-told .enum-told .given .1) in let w = rw (c .enum-told2 .given .1) at (c .before .before .resting .ensures) in rw (v .0, w) (refl, refl)
 
 returns-2 : tie.Need-returns-2
 unfolding ownViewed
@@ -30,7 +31,7 @@ returns-2 c =
     let k-enum-told = k-resting .before in
     let k-valid-book = k-enum-told .before .before in
     let k-start = k-valid-book .before .before .before in
-    let v = view-valid (bookView ceiling (k-start .args .book) (k-start .args .rows .now) false) (lastOf (k-start .args .book .status)) _ _ (k-valid-book .valid-book .ensures) (k-enum-told .enum-told .given .1) in let w = rw (k-o .o .given .1) at (k-resting .resting .ensures) in rw (v .0, w, ← c .before .place-unknown .ensures, c .if1 .taken)
+    let v = view-valid (bookView ceiling (k-start .args .book) (k-start .args .rows .now) false) (lastOf (k-start .args .book .status)) _ _ (k-valid-book .valid-book .ensures) (k-enum-told .enum-told .given .1) in let w = rw (k-o .o .given .1) at (k-resting .resting .ensures) in rw (v .0, w, ← c .before .place-unknown .ensures, c .if1 .taken) (refl, refl)
 
 own-estimate-requires : tie.Need-own-estimate-requires
 own-estimate-requires c κs =
@@ -46,7 +47,7 @@ unfolding ownViewed
 returns-3 c =
     let k-valid-book = c .before .before .before in
     let k-start = k-valid-book .before .before .before in
-    rw (view-refused (bookView ceiling (k-start .args .book) (k-start .args .rows .now) false) (lastOf (k-start .args .book .status)) _ _ (k-valid-book .valid-book .ensures) (c .before .why .given .1))
+    rw (view-refused (bookView ceiling (k-start .args .book) (k-start .args .rows .now) false) (lastOf (k-start .args .book .status)) _ _ (k-valid-book .valid-book .ensures) (c .before .why .given .1)) (refl, refl)
 
 returns-4 : tie.Need-returns-4
 unfolding ownViewed
@@ -56,7 +57,7 @@ returns-4 c =
     let k-enum-told = k-resting .before in
     let k-valid-book = k-enum-told .before .before in
     let k-start = k-valid-book .before .before .before in
-    let v = view-valid (bookView ceiling (k-start .args .book) (k-start .args .rows .now) false) (lastOf (k-start .args .book .status)) _ _ (k-valid-book .valid-book .ensures) (k-enum-told .enum-told .given .1) in let w = rw (k-o .o .given .1) at (k-resting .resting .ensures) in rw (v .0, w, ← c .before .before .place-unknown .ensures, c .before .if1 .left, c .own-estimate .ensures)
+    let v = view-valid (bookView ceiling (k-start .args .book) (k-start .args .rows .now) false) (lastOf (k-start .args .book .status)) _ _ (k-valid-book .valid-book .ensures) (k-enum-told .enum-told .given .1) in let w = rw (k-o .o .given .1) at (k-resting .resting .ensures) in rw (v .0, w, ← c .before .before .place-unknown .ensures, c .before .if1 .left, c .own-estimate .ensures) (refl, refl)
 
 pub queue-estimate-own-spec : {M : Type 1} → statement M
 queue-estimate-own-spec =

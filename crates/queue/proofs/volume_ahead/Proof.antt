@@ -1,5 +1,5 @@
 use Rattle.reconstructor_state.specs.Checks.{check, first}
-use mathlib.Core.Path.{_≡_, _∙_, sym, ap}
+use mathlib.Core.Path.{_≡_, refl, _∙_, sym, ap}
 use Prim.Native.Nat.{_*_}
 use lib.Dec.{ltb}
 use lib.ListN.{length}
@@ -9,6 +9,7 @@ use mir.Syntax.{w64}
 use mir.Val.{toZ, ofZ}
 use Rattle.message.specs.Amounts.{natOf}
 use Rattle.queue.specs.Estimates.{aheadRefusal, aheadOf}
+use Rattle.queue.specs.Numbers.{aheadTold}
 use mathlib.Core.Bool.{false}
 use Rattle.book.specs.Rows.{ceiling}
 use Rattle.reconstructor_state.specs.State.{lastOf}
@@ -23,7 +24,7 @@ unfolding aheadRefusal aheadOf check first
 returns c =
     let k-valid-book = c .before .before .before in
     let k-start = k-valid-book .before .before .before in
-    rw (view-refused (bookView ceiling (k-start .args .book) (k-start .args .rows .now) false) (lastOf (k-start .args .book .status)) _ _ (k-valid-book .valid-book .ensures) (c .before .why .given .1))
+    rw (view-refused (bookView ceiling (k-start .args .book) (k-start .args .rows .now) false) (lastOf (k-start .args .book .status)) _ _ (k-valid-book .valid-book .ensures) (c .before .why .given .1)) (refl, refl)
 
 returns-2 : tie.Need-returns-2
 unfolding aheadRefusal aheadOf check first
@@ -32,7 +33,7 @@ returns-2 c =
     let k-last-seq = k-anchor .before .before .before .before .before in
     let k-valid-book = k-last-seq .before .before in
     let k-start = k-valid-book .before .before .before in
-    let v = view-valid (bookView ceiling (k-start .args .book) (k-start .args .rows .now) false) (lastOf (k-start .args .book .status)) _ _ (k-valid-book .valid-book .ensures) (k-last-seq .last-seq .given .1) in rw (v .0, k-anchor .anchor .given .1, ← c .before .list-short .ensures, c .if1 .taken)
+    let v = view-valid (bookView ceiling (k-start .args .book) (k-start .args .rows .now) false) (lastOf (k-start .args .book .status)) _ _ (k-valid-book .valid-book .ensures) (k-last-seq .last-seq .given .1) in rw (v .0, k-anchor .anchor .given .1, ← c .before .list-short .ensures, c .if1 .taken) (refl, refl)
 
 returns-3 : tie.Need-returns-3
 unfolding aheadRefusal aheadOf check first
@@ -42,7 +43,7 @@ returns-3 c =
     let k-last-seq = k-anchor .before .before .before .before .before in
     let k-valid-book = k-last-seq .before .before in
     let k-start = k-valid-book .before .before .before in
-    let v = view-valid (bookView ceiling (k-start .args .book) (k-start .args .rows .now) false) (lastOf (k-start .args .book .status)) _ _ (k-valid-book .valid-book .ensures) (k-last-seq .last-seq .given .1) in rw (v .0, k-anchor .anchor .given .1, ← k-list-short .list-short .ensures, c .before .before .if1 .left, ← c .before .is-stale .ensures, c .if2 .taken)
+    let v = view-valid (bookView ceiling (k-start .args .book) (k-start .args .rows .now) false) (lastOf (k-start .args .book .status)) _ _ (k-valid-book .valid-book .ensures) (k-last-seq .last-seq .given .1) in rw (v .0, k-anchor .anchor .given .1, ← k-list-short .list-short .ensures, c .before .before .if1 .left, ← c .before .is-stale .ensures, c .if2 .taken) (refl, refl)
 
 ahead-of-list-requires : tie.Need-ahead-of-list-requires
 ahead-of-list-requires c κs =
@@ -60,7 +61,7 @@ returns-4 c =
     let k-last-seq = k-anchor2 .before .before .before .before .before in
     let k-valid-book = k-last-seq .before .before in
     let k-start = k-valid-book .before .before .before in
-    let v = view-valid (bookView ceiling (k-start .args .book) (k-start .args .rows .now) false) (lastOf (k-start .args .book .status)) _ _ (k-valid-book .valid-book .ensures) (k-last-seq .last-seq .given .1) in rw (v .0, k-anchor2 .anchor2 .given .1, ← c .before .is-stale2 .ensures, c .if3 .taken)
+    let v = view-valid (bookView ceiling (k-start .args .book) (k-start .args .rows .now) false) (lastOf (k-start .args .book .status)) _ _ (k-valid-book .valid-book .ensures) (k-last-seq .last-seq .given .1) in rw (v .0, k-anchor2 .anchor2 .given .1, ← c .before .is-stale2 .ensures, c .if3 .taken) (refl, refl)
 
 ahead-of-own-requires : tie.Need-ahead-of-own-requires
 ahead-of-own-requires c κs =
@@ -78,7 +79,7 @@ returns-5 c =
     let k-last-seq = k-anchor .before .before .before .before .before in
     let k-valid-book = k-last-seq .before .before in
     let k-start = k-valid-book .before .before .before in
-    let v = view-valid (bookView ceiling (k-start .args .book) (k-start .args .rows .now) false) (lastOf (k-start .args .book .status)) _ _ (k-valid-book .valid-book .ensures) (k-last-seq .last-seq .given .1) in rw (v .0, k-anchor .anchor .given .1, ← k-list-short .list-short .ensures, k-if1 .if1 .left, ← c .before .before .is-stale .ensures, c .before .if2 .left, ← v .1) (c .ahead-of-list .ensures)
+    let v = view-valid (bookView ceiling (k-start .args .book) (k-start .args .rows .now) false) (lastOf (k-start .args .book .status)) _ _ (k-valid-book .valid-book .ensures) (k-last-seq .last-seq .given .1) in rw (v .0, k-anchor .anchor .given .1, ← k-list-short .list-short .ensures, k-if1 .if1 .left, ← c .before .before .is-stale .ensures, c .before .if2 .left, ← v .1) (c .ahead-of-list .ensures, ap aheadTold (c .ahead-of-list .ensures))
 
 returns-6 : tie.Need-returns-6
 unfolding aheadRefusal aheadOf check first
@@ -89,7 +90,7 @@ returns-6 c =
     let k-last-seq = k-size-of .before .before .before in
     let k-valid-book = k-last-seq .before .before in
     let k-start = k-valid-book .before .before .before in
-    let v = view-valid (bookView ceiling (k-start .args .book) (k-start .args .rows .now) false) (lastOf (k-start .args .book .status)) _ _ (k-valid-book .valid-book .ensures) (k-last-seq .last-seq .given .1) in let z = k-size-of .size-of .ensures ∙ ap natOf b in rw (v .0, k-anchor2 .anchor2 .given .1, ← c .before .before .is-stale2 .ensures, c .before .if3 .left, ← v .1, ← z) (c .ahead-of-own .ensures)
+    let v = view-valid (bookView ceiling (k-start .args .book) (k-start .args .rows .now) false) (lastOf (k-start .args .book .status)) _ _ (k-valid-book .valid-book .ensures) (k-last-seq .last-seq .given .1) in let z = k-size-of .size-of .ensures ∙ ap natOf b in rw (v .0, k-anchor2 .anchor2 .given .1, ← c .before .before .is-stale2 .ensures, c .before .if3 .left, ← v .1, ← z) (c .ahead-of-own .ensures, ap aheadTold (c .ahead-of-own .ensures))
 
 pub volume-ahead-spec : {M : Type 1} → statement M
 volume-ahead-spec =

@@ -31,7 +31,7 @@ returns-2 c =
     let k-own-checks = k-enum-told .before .before in
     let a = k-own-checks .before .before .before .before .args in
     k-core .bootstrap-usable .ensures
-    ∙ read ceiling (a .book) (a .rows .now) (a .lent) (a .last) (a .bytes .now) (said-none (bookRefusal ceiling (a .book) (a .rows .now) (a .lent)) (k-own-checks .own-checks .result) (k-own-checks .own-checks .ensures) (k-enum-told .enum-told .given .1)) _ (sym (k-read-snapshot .read-snapshot .ensures) ∙ k-snapshot .snapshot .given .1)
+    ∙ read ceiling (a .book) (a .rows .now) (a .lent) (a .last) (a .bytes .now) (said-none (bookRefusal ceiling (a .book) (a .rows .now) (a .lent)) (k-own-checks .own-checks .result) (k-own-checks .own-checks .ensures) (k-enum-told .enum-told .given .1)) _ (sym (k-read-snapshot .read-snapshot .ensures .0) ∙ k-snapshot .snapshot .given .1)
 
 returns-3 : tie.Need-returns-3
 returns-3 c =
@@ -41,7 +41,7 @@ returns-3 c =
     let k-own-checks = k-enum-told .before .before in
     let a = k-own-checks .before .before .before .before .args in
     ap (λ w. booted w (a .rows .now)) (c .refused2 .ensures ∙ ap (λ x. refusedWork x (a .book) (a .lent) (a .last)) (c .before .piece-answer .ensures))
-    ∙ not-read ceiling (a .book) (a .rows .now) (a .lent) (a .last) (a .bytes .now) (said-none (bookRefusal ceiling (a .book) (a .rows .now) (a .lent)) (k-own-checks .own-checks .result) (k-own-checks .own-checks .ensures) (k-enum-told .enum-told .given .1)) _ (sym (k-read-snapshot .read-snapshot .ensures) ∙ k-error .error .given .1)
+    ∙ not-read ceiling (a .book) (a .rows .now) (a .lent) (a .last) (a .bytes .now) (said-none (bookRefusal ceiling (a .book) (a .rows .now) (a .lent)) (k-own-checks .own-checks .result) (k-own-checks .own-checks .ensures) (k-enum-told .enum-told .given .1)) _ (sym (k-read-snapshot .read-snapshot .ensures .0) ∙ k-error .error .given .1)
 
 pub bootstrap-by-value-spec : {M : Type 1} → statement M
 bootstrap-by-value-spec =

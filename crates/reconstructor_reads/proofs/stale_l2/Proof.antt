@@ -12,7 +12,8 @@ use Rattle.reconstructor_view.specs.View.{bookView, stateRead}
 use Rattle.reconstructor_view.proofs.View.{view-refused, view-valid, valid-read, readable, read-lent}
 use Rattle.reconstructor_checks.proofs.Own.{said, said-none}
 use Rattle.reconstructor_reads.specs.declared.StaleAnswer.the-variants.{Shown}
-use Rattle.reconstructor_reads.specs.Reads.{Shows, shown, staleRead, leavesStale, scratchShort, levelsContent}
+use Rattle.reconstructor_reads.specs.Reads.{Shows, shown, StaleRead, staleRead, leavesStale, scratchShort, levelsContent}
+use Rattle.reconstructor_reads.specs.Numbers.{staleTold}
 use borrow.Author.Needs.{needs}
 use Rattle.reconstructor_reads.proofs.stale_l2.Statement.{statement}
 use Rattle.reconstructor_reads.proofs.stale_l2.Tie as tie
@@ -29,21 +30,22 @@ unfolding staleRead
 returns c =
     let k-read-checks = c .before .before .before in
     let k-start = k-read-checks .before .before .before .before .before in
-    ap (λ o. staleRead o (k-start .args .book .status) (shown (k-start .args .book .rules .«max_orders») (levelsContent 2 (k-start .args .side) (rowsOf (k-start .args .rows .now) (k-start .args .book .rows))) (k-start .args .scratch .now) (k-start .args .out .now)) (k-start .args .scratch .now) (k-start .args .out .now)) (sym (said (stateRead ceiling (k-start .args .book) (k-start .args .rows .now) (scratchShort (k-start .args .book) (k-start .args .scratch .now))) _ _ (k-read-checks .read-checks .ensures) (c .before .why .given .1)))
+    let e = ap (λ o. staleRead o (k-start .args .book .status) (shown (k-start .args .book .rules .«max_orders») (levelsContent 2 (k-start .args .side) (rowsOf (k-start .args .rows .now) (k-start .args .book .rows))) (k-start .args .scratch .now) (k-start .args .out .now)) (k-start .args .scratch .now) (k-start .args .out .now)) (sym (said (stateRead ceiling (k-start .args .book) (k-start .args .rows .now) (scratchShort (k-start .args .book) (k-start .args .scratch .now))) _ _ (k-read-checks .read-checks .ensures) (c .before .why .given .1))) in
+    (e, ap (λ (x : StaleRead). staleTold (x .answer)) e)
 
 returns-2 : tie.Need-returns-2
 unfolding staleRead
 returns-2 c =
     let k-read-checks = c .before .before .before .before in
     let k-start = k-read-checks .before .before .before .before .before in
-    let v = said-none (stateRead ceiling (k-start .args .book) (k-start .args .rows .now) (scratchShort (k-start .args .book) (k-start .args .scratch .now))) _ (k-read-checks .read-checks .ensures) (c .before .before .enum-told .given .1) in rw (v, c .enum-told2 .given .1)
+    let v = said-none (stateRead ceiling (k-start .args .book) (k-start .args .rows .now) (scratchShort (k-start .args .book) (k-start .args .scratch .now))) _ (k-read-checks .read-checks .ensures) (c .before .before .enum-told .given .1) in rw (v, c .enum-told2 .given .1) (refl, refl)
 
 returns-3 : tie.Need-returns-3
 unfolding staleRead
 returns-3 c =
     let k-read-checks = c .before .before .before .before in
     let k-start = k-read-checks .before .before .before .before .before in
-    let v = said-none (stateRead ceiling (k-start .args .book) (k-start .args .rows .now) (scratchShort (k-start .args .book) (k-start .args .scratch .now))) _ (k-read-checks .read-checks .ensures) (c .before .before .enum-told .given .1) in rw (v, c .enum-told3 .given .1)
+    let v = said-none (stateRead ceiling (k-start .args .book) (k-start .args .rows .now) (scratchShort (k-start .args .book) (k-start .args .scratch .now))) _ (k-read-checks .read-checks .ensures) (c .before .before .enum-told .given .1) in rw (v, c .enum-told3 .given .1) (refl, refl)
 
 returns-4 : tie.Need-returns-4
 unfolding staleRead
@@ -53,7 +55,8 @@ returns-4 c =
     let k-enum-told = k-enum-told4 .before .before in
     let k-read-checks = k-enum-told .before .before in
     let k-start = k-read-checks .before .before .before .before .before in
-    let v = said-none (stateRead ceiling (k-start .args .book) (k-start .args .rows .now) (scratchShort (k-start .args .book) (k-start .args .scratch .now))) _ (k-read-checks .read-checks .ensures) (k-enum-told .enum-told .given .1) in rw (v, k-enum-told4 .enum-told4 .given .1) (ap (λ (w : Shows). leavesStale (Shown (w .answer)) (w .scratch) (w .out)) (k-show-levels .show-levels .ensures))
+    let v = said-none (stateRead ceiling (k-start .args .book) (k-start .args .rows .now) (scratchShort (k-start .args .book) (k-start .args .scratch .now))) _ (k-read-checks .read-checks .ensures) (k-enum-told .enum-told .given .1) in
+    let e = ap (λ (w : Shows). leavesStale (Shown (w .answer)) (w .scratch) (w .out)) (k-show-levels .show-levels .ensures) in rw (v, k-enum-told4 .enum-told4 .given .1) (e, ap (λ (x : StaleRead). staleTold (x .answer)) e)
 
 pub stale-l2-spec : {M : Type 1} → statement M
 stale-l2-spec =

@@ -1,8 +1,9 @@
-use mathlib.Core.Path.{sym, ap}
+use mathlib.Core.Path.{refl, sym, ap}
 use mathlib.Core.Bool.{false}
 use Rattle.book.specs.Rows.{ceiling, rowsOf, lineOf}
 use Rattle.reconstructor_state.specs.State.{lastOf}
 use Rattle.reconstructor_view.specs.View.{bookView, bestOf}
+use Rattle.reconstructor_view.specs.Numbers.{bestTold}
 use Rattle.reconstructor_view.proofs.View.{view-refused, view-valid, valid-read, read-lent}
 use borrow.Author.Needs.{needs}
 use Rattle.reconstructor_view.proofs.best.Statement.{statement}
@@ -24,14 +25,15 @@ unfolding bestOf
 returns c =
     let k-valid-book = c .before .before .before in
     let k-start = k-valid-book .before .before in
-    ap (λ o. bestOf o (lineOf (rowsOf (k-start .args .rows .now) (k-start .args .book .rows)))) (sym (view-refused (bookView ceiling (k-start .args .book) (k-start .args .rows .now) false) (lastOf (k-start .args .book .status)) _ _ (k-valid-book .valid-book .ensures) (c .before .why .given .1)))
+    let e = ap (λ o. bestOf o (lineOf (rowsOf (k-start .args .rows .now) (k-start .args .book .rows)))) (sym (view-refused (bookView ceiling (k-start .args .book) (k-start .args .rows .now) false) (lastOf (k-start .args .book .status)) _ _ (k-valid-book .valid-book .ensures) (c .before .why .given .1))) in
+    (e, ap bestTold e)
 
 returns-2 : tie.Need-returns-2
 unfolding bestOf
 returns-2 c =
     let k-valid-book = c .before .before .before .before in
     let k-start = k-valid-book .before .before in
-    let v = view-valid (bookView ceiling (k-start .args .book) (k-start .args .rows .now) false) (lastOf (k-start .args .book .status)) _ _ (k-valid-book .valid-book .ensures) (c .before .before .enum-told .given .1) in rw (v .0, c .before .best-bid .ensures, c .best-ask .ensures)
+    let v = view-valid (bookView ceiling (k-start .args .book) (k-start .args .rows .now) false) (lastOf (k-start .args .book .status)) _ _ (k-valid-book .valid-book .ensures) (c .before .before .enum-told .given .1) in rw (v .0, c .before .best-bid .ensures, c .best-ask .ensures) (refl, refl)
 
 pub best-spec : {M : Type 1} → statement M
 best-spec =
