@@ -68,7 +68,11 @@ unfoldable pub invalidatedReply : BookReconstructor → ℕ → ℕ → Invalida
 invalidatedReply b last seq k =
     record { answer = answers.Invalidated (invalidation last seq k); book = withStatus b (Invalidated (invalidation last seq k)) }
 
--- "Acceptance sets last sequence .. and adds one to one counter"
+-- "Acceptance sets last sequence"
+unfoldable pub advancedReply : BookReconstructor → ℕ → ℕ → Applied → Reply
+advancedReply b seq n a = record { answer = answers.Applied a; book = with b (Valid seq) n (b .counts) }
+
+-- ".. and adds one to one counter"
 unfoldable pub acceptedReply : BookReconstructor → ℕ → ℕ → Counter → Applied → Reply
 acceptedReply b seq n k a = record { answer = answers.Applied a; book = with b (Valid seq) n (counted (b .counts) k) }
 
