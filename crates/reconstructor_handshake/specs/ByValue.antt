@@ -1,16 +1,16 @@
 -- A step on a book whose last segment's record is at hand by value: the work behind `stepped`, which the code does before it writes that record back. Nothing
 -- here is for a reader to believe: `stepped` is proved to be this with the record rewritten (proofs/ByValue.antt).
-use Prim.Native.Nat.{ℕ, _-_}
+use Prim.Native.Nat.{ℕ}
 use mathlib.Core.Bool.{not, cond}
 use mathlib.Core.List.{List}
 use mathlib.Core.Option.{Option, none, some}
-use lib.ListN.{set}
 use Rattle.message.specs.declared.L3Message.{L3Message}
 use Rattle.message.specs.Values.{eventInRange}
 use Rattle.reconstructor_answers.specs.declared.StateError.{StateError}
 use Rattle.reconstructor_answers.specs.declared.ApplyAnswer.the-variants as answers
 use Rattle.reconstructor_counts.specs.Counts.{countedAt}
 use Rattle.reconstructor_segments.specs.declared.Segment.{Segment}
+use Rattle.reconstructor_segments.specs.Segments.{relast}
 use Rattle.reconstructor_state.specs.declared.BookReconstructor.{BookReconstructor}
 use Rattle.reconstructor_state.specs.Checks.{check}
 use Rattle.reconstructor_state.specs.State.{withCounts, segmentOf}
@@ -69,7 +69,7 @@ steppedTo top h b ws lent g m = ownTo (bookRefusal top b ws lent) (stepTo h b ws
 -- the record written back as the last of a list's first n
 abbrev pub relistedStep : List Segment → ℕ → StepWorked → StepParts
 relistedStep sg n w =
-    record { answer = w .answer; handshake = w .handshake; book = w .book; rows = w .rows; segments = set sg (n - 1) (w .segment) }
+    record { answer = w .answer; handshake = w .handshake; book = w .book; rows = w .rows; segments = relast sg n (w .segment) }
 
 abbrev pub stepReplyOf : StepWork → StepReply
 stepReplyOf w = record { handshake = w .handshake; book = w .book; answer = w .answer }
