@@ -50,7 +50,7 @@ bootstrapCall st ws sg bytes =
 unfoldable pub handshakeCall : List ℕ → List ℕ → Answered
 handshakeCall st hs =
     cond (ltb (length st) 27 || ltb (length hs) 4) (answered 7 hs)
-    (answered 0 (handshakeLeft hs (newHandshake (segmentOf (bookOf st)))))
+    (answered 0 (handshakeLeft hs (newHandshake (segmentOf (bookOf st)) (bookOf st .segments))))
 
 pub record StepCall : Type 0 where
   pub number : ℕ
