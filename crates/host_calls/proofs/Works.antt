@@ -1,6 +1,6 @@
 -- What a call leaves on words, where its work was done by value: the calls on a slice of records leave the same.
 -- Assumes nothing.
-use Prim.Native.Nat.{ℕ, _-_, _/_}
+use Prim.Native.Nat.{ℕ, _/_}
 use mathlib.Core.Path.{_≡_, sym, ap, ap₂, _∙_}
 use mathlib.Core.List.{List}
 use lib.Dec.{eqb}
@@ -8,7 +8,8 @@ use lib.ListN.{length, set, length-set}
 use Rattle.message.specs.declared.L3Message.{L3Message}
 use Rattle.book.specs.Rows.{ceiling}
 use Rattle.reconstructor_segments.specs.declared.Segment.{Segment}
-use Rattle.reconstructor_segments.specs.Segments.{segmentAt}
+use Rattle.reconstructor_segments.specs.Segments.{lastSegment, relast}
+use Rattle.reconstructor_segments.proofs.Last.{length-relast}
 use Rattle.reconstructor_state.specs.declared.BookReconstructor.{BookReconstructor}
 use Rattle.reconstructor.specs.declared.Work.{Work}
 use Rattle.reconstructor.specs.Applied.{applied}
@@ -31,12 +32,12 @@ use Rattle.reconstructor_bootstrap.proofs.ByValue.{bootstrapped-by-value}
 use Rattle.reconstructor_handshake.proofs.ByValue.{stepped-by-value}
 use Rattle.host_records.proofs.Records.{length-records, records-relaid, relaid-twice}
 
-module _ (st ws sg : List ℕ) (b : BookReconstructor) (g : Segment) (at : g ≡ segmentAt (recordsOf sg) (b .segments - 1)) where
+module _ (st ws sg : List ℕ) (b : BookReconstructor) (g : Segment) (at : g ≡ lastSegment (recordsOf sg) (b .segments)) where
   abbrev records : List Segment
   records = recordsOf sg
 
   pub apply-leaves : (m : L3Message) (w : Work) (vs tg : List ℕ) → worked w vs ≡ appliedTo ceiling b ws (length sg / 8) g m
-      → tg ≡ relaid sg (set records (b .segments - 1) (w .segment))
+      → tg ≡ relaid sg (relast records (b .segments) (w .segment))
       → called (answerNumber (w .answer)) (restored st (setsStatus (w .answer)) (w .book)) vs tg ≡ afterApply st sg (applied ceiling b ws records m)
   apply-leaves m w vs tg e q =
       rw q
@@ -44,7 +45,7 @@ module _ (st ws sg : List ℕ) (b : BookReconstructor) (g : Segment) (at : g ≡
       ∙ sym (ap (afterApply st sg) (applied-by-value b ws records m ceiling)))
 
   pub step-leaves : (h : Handshake) (hs : List ℕ) (m : L3Message) (w : StepWork) (vs tg : List ℕ) → stepWorked w vs ≡ steppedTo ceiling h b ws (length sg / 8) g m
-      → tg ≡ relaid sg (set records (b .segments - 1) (w .segment))
+      → tg ≡ relaid sg (relast records (b .segments) (w .segment))
       → stepCalled (stepNumber (w .answer)) (restored st (stepSets (w .answer)) (w .book)) vs tg (handshakeLeft hs (w .handshake)) ≡ afterStep st sg hs (stepped ceiling h b ws records m)
   step-leaves h hs m w vs tg e q =
       rw q
@@ -52,11 +53,11 @@ module _ (st ws sg : List ℕ) (b : BookReconstructor) (g : Segment) (at : g ≡
       ∙ sym (ap (afterStep st sg hs) (stepped-by-value h b ws records m)))
 
   pub boot-leaves : (bytes : List ℕ) (w : boots.Work) (vs ug tg : List ℕ) → boot.booted w vs ≡ boot.bootstrappedTo ceiling b ws (length sg / 8) g bytes
-      → ug ≡ relaid sg (set records (b .segments - 1) (w .segment)) → tg ≡ relaid ug (set (recordsOf ug) (w .at) (w .started))
+      → ug ≡ relaid sg (relast records (b .segments) (w .segment)) → tg ≡ relaid ug (set (recordsOf ug) (w .at) (w .started))
       → called (snapshotNumber (w .answer)) (restored st (eqb (snapshotNumber (w .answer)) 0) (w .book)) vs tg ≡ afterBootstrap st sg (bootstrapped ceiling b ws records bytes)
   boot-leaves bytes w vs ug tg e p q =
-      let first : List Segment = set records (b .segments - 1) (w .segment) in
-      let many : length first ≡ length sg / 8 = length-set records (b .segments - 1) (w .segment) ∙ length-records sg in
+      let first : List Segment = relast records (b .segments) (w .segment) in
+      let many : length first ≡ length sg / 8 = length-relast records (b .segments) (w .segment) ∙ length-records sg in
       let read : recordsOf ug ≡ first = ap recordsOf p ∙ records-relaid sg first many in
       let last : tg ≡ relaid sg (set first (w .at) (w .started)) =
       q ∙ ap₂ (λ (x : List ℕ) (l : List Segment). relaid x (set l (w .at) (w .started))) p read ∙ relaid-twice sg first (set first (w .at) (w .started)) (length-set first (w .at) (w .started)) in

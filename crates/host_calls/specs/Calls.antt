@@ -57,7 +57,7 @@ bootstrapCall st ws sg bytes =
 unfoldable pub handshakeCall : List ℕ → List ℕ → Answered
 handshakeCall st hs =
     unlessTurned (ownBoundary st) (λ (k : ℕ). answered k hs)
-    (cond (ltb (length hs) 4) (answered 7 hs) (answered 0 (handshakeLeft hs (newHandshake (segmentOf (bookOf st))))))
+    (cond (ltb (length hs) 4) (answered 7 hs) (answered 0 (handshakeLeft hs (newHandshake (segmentOf (bookOf st)) (bookOf st .segments)))))
 
 pub record StepCall : Type 0 where
   pub number : ℕ

@@ -11,7 +11,8 @@ use Rattle.book.specs.Rows.{emptyRow, rowAt, rowsFrom, rowsOf, encodeAll, setRo
 use Rattle.book.proofs.Rows.{length-rows, getD-rows}
 use Rattle.book.proofs.Stored.{rows-stored, length-stored, length-encode, stored-same, stored-set}
 use Rattle.reconstructor_segments.specs.declared.Segment.{Segment}
-use Rattle.reconstructor_segments.specs.Segments.{noSegment, segmentAt}
+use Rattle.reconstructor_segments.specs.Segments.{noSegment, segmentAt, relast}
+use Rattle.reconstructor_segments.proofs.Last.{relast-at}
 use Rattle.host_records.specs.Records.{recordAt, recordsFrom, recordsOf, recordWords, encodeRecords, setRecord, relaid}
 
 -- the row of the same words, and back
@@ -127,3 +128,12 @@ module _ (ws : List ℕ) (i : ℕ) where
 
   pub put-none : (g : Segment) → length ws / 8 ≤ i → ws ≡ relaid ws (set (recordsOf ws) i g)
   put-none g h = sym (ap (relaid ws) (set-out (recordsOf ws) i g (omega (arith, length-records ws, h))) ∙ relaid-same ws)
+
+-- ---- the last of the first n
+
+pub put-last : (ws : List ℕ) (n : ℕ) (g : Segment) → 0 < n → relaid ws (set (recordsOf ws) (n - 1) g) ≡ relaid ws (relast (recordsOf ws) n g)
+put-last ws n g h = ap (relaid ws) (sym (relast-at (recordsOf ws) n g h))
+
+pub put-no-last : (ws : List ℕ) (n : ℕ) (g : Segment) → n ≤ 0 → ws ≡ relaid ws (relast (recordsOf ws) n g)
+put-no-last ws zero g h = sym (relaid-same ws)
+put-no-last ws (suc n) g h = absurd (omega (arith, h))

@@ -1,9 +1,9 @@
 // A segment list as words, eight a record: the form in which C lends it. What `reconstructor_segments` does on a slice of records is done here on their words.
 use reconstructor_segments::Segment;
 ghost use mathlib.Core.Path.{_≡_};
-ghost use Prim.Native.Nat.{_+_, _*_, _-_, _≤_};
+ghost use Prim.Native.Nat.{_+_, _*_, _≤_};
 ghost use lib.ListN.{length, set};
-ghost use Rattle.reconstructor_segments.specs.Segments.{segmentAt};
+ghost use Rattle.reconstructor_segments.specs.Segments.{segmentAt, lastSegment, relast};
 ghost use Rattle.host_records.specs.Records.{recordAt, recordsOf, setRecord, relaid};
 
 // Record `i`.
@@ -61,14 +61,19 @@ pub fn put_record(words: &mut [u64], place: usize, segment: Segment)
 
 // The last of the first `count` records; zeros where there is none.
 pub fn last_record(words: &[u64], count: usize) -> Segment
-    ensures { λ r. ⌜ r ≡ segmentAt (recordsOf (now (words .entry))) (count - 1) ⌝ }
+    ensures { λ r. ⌜ r ≡ lastSegment (recordsOf (now (words .entry))) count ⌝ }
 {
-    record_at(words, reconstructor_segments::last_place(count))
+    if count == 0 {
+        return Segment::none();
+    }
+    record_at(words, count - 1)
 }
 
 // Writes the last of the first `count` records; nothing where there is none.
 pub fn rewrite_record(words: &mut [u64], count: usize, segment: Segment)
-    ensures { λ _. ⌜ now (words .exit) ≡ relaid (now (words .entry)) (set (recordsOf (now (words .entry))) (count - 1) segment) ⌝ }
+    ensures { λ _. ⌜ now (words .exit) ≡ relaid (now (words .entry)) (relast (recordsOf (now (words .entry))) count segment) ⌝ }
 {
-    put_record(words, reconstructor_segments::last_place(count), segment)
+    if count > 0 {
+        put_record(words, count - 1, segment);
+    }
 }

@@ -16,7 +16,8 @@ use Rattle.book.specs.Rows.{ceiling, rowsOf}
 use Rattle.book_index.specs.declared.Bounds.{Bounds}
 use Rattle.book_index.specs.Index.{rowMarked, rowBounded, all, Indexed, Foreseen, noted}
 use Rattle.reconstructor_segments.specs.declared.Segment.{Segment}
-use Rattle.reconstructor_segments.specs.Segments.{segmentAt}
+use Rattle.reconstructor_segments.specs.Segments.{lastSegment, relast}
+use Rattle.reconstructor_segments.proofs.Last.{length-relast}
 use Rattle.reconstructor_state.specs.declared.BookReconstructor.{BookReconstructor}
 use Rattle.reconstructor.specs.declared.Work.{Work}
 use Rattle.reconstructor.specs.Applied.{Parts, applied}
@@ -63,8 +64,8 @@ foreseen ps bd nd os i h = record { few = i .few; marks = i .marks; within = h; 
 -- ---- a message
 
 -- what its call was seen to give leaves the words of `applyCall`, and the loop goes on
-module _ (st ws sg m ps : List ℕ) (n : ℕ) (bd : Bounds) (w : Work) (ut vs tg qs : List ℕ) (g : Segment) (at : g ≡ segmentAt (recordsOf sg) (bookOf st .segments - 1))
-    (e : worked w vs ≡ trustedTo (bookOf st) ws g (messageOf m)) (eg : tg ≡ relaid sg (set (recordsOf sg) (bookOf st .segments - 1) (w .segment)))
+module _ (st ws sg m ps : List ℕ) (n : ℕ) (bd : Bounds) (w : Work) (ut vs tg qs : List ℕ) (g : Segment) (at : g ≡ lastSegment (recordsOf sg) (bookOf st .segments))
+    (e : worked w vs ≡ trustedTo (bookOf st) ws g (messageOf m)) (eg : tg ≡ relaid sg (relast (recordsOf sg) (bookOf st .segments) (w .segment)))
     (eu : ut ≡ restored st (setsStatus (w .answer)) (w .book)) (en : qs ≡ noted ps n (messageOf m .event)) (whole : 27 ≤ length st) (is : noBook st ≡ false) (u : Usable ceiling (bookOf st) ws (length sg / 8)) where
   abbrev after : Parts
   after = applied ceiling (bookOf st) ws (recordsOf sg) (messageOf m)
@@ -85,7 +86,7 @@ module _ (st ws sg m ps : List ℕ) (n : ℕ) (bd : Bounds) (w : Work) (ut vs tg
       (ap (afterApply st sg) done)
 
   kept : length (after .segments) ≡ length sg / 8
-  kept = ap (λ (p : Parts). length (p .segments)) (sym done) ∙ length-set (recordsOf sg) (bookOf st .segments - 1) (w .segment) ∙ length-records sg
+  kept = ap (λ (p : Parts). length (p .segments)) (sym done) ∙ length-relast (recordsOf sg) (bookOf st .segments) (w .segment) ∙ length-records sg
 
   pub runs-on : length ut ≡ length st → length tg ≡ length sg → length qs ≡ length ps → Indexed ps bd (rowsOf ws (bookOf st .rows)) → Foreseen bd (messageOf m .event) → Runs ut vs tg qs bd
   runs-on long same few i f =

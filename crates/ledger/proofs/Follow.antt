@@ -1,6 +1,6 @@
 -- The world follows the ledger's view: after each call the state with its memory stands for it. Number 3 never arises.
 -- Assumes nothing.
-use Prim.Native.Nat.{ℕ, _+_, _*_, _-_, _≤_}
+use Prim.Native.Nat.{ℕ, _+_, _*_, _≤_}
 use native.Mathlib.Omega.{arith}
 use mathlib.Core.Bool.{Bool, true, false, _||_}
 use mathlib.Core.Path.{_≡_, refl, sym, ap, ap₂, subst, _∙_}
@@ -20,7 +20,8 @@ use Rattle.reconstructor_answers.specs.declared.StateError.{StateError}
 use Rattle.reconstructor_answers.specs.declared.StateError.the-variants.{LimitAboveCeiling, LentTooShort, MalformedBook}
 use Rattle.reconstructor_answers.specs.declared.ApplyAnswer.the-variants as answers
 use Rattle.reconstructor_segments.specs.declared.Segment.{Segment}
-use Rattle.reconstructor_segments.specs.Segments.{segmentAt}
+use Rattle.reconstructor_segments.specs.Segments.{lastSegment}
+use Rattle.reconstructor_segments.proofs.Last.{last-front}
 use Rattle.reconstructor_state.specs.declared.VenueRules.{VenueRules}
 use Rattle.reconstructor_state.specs.declared.BookReconstructor.{BookReconstructor}
 use Rattle.reconstructor_state.specs.State.{View, Lengths, lengthsOf, newBook}
@@ -40,7 +41,7 @@ use Rattle.reconstructor_handshake.specs.Step.{stepRefusal, stepped}
 use Rattle.reconstructor_handshake.proofs.Step.{unusable-step}
 use Rattle.ledger.specs.Ledger.{Config, Call, bootstrap, apply, step, read, blank, refused, settle, applyOutcome, stepSettle, stepOutcome, bootOutcome, viewBy, viewBoot, feedView}
 use Rattle.ledger.specs.World.{World, lentRows, lentSegments, back, perform, run, Fits, Lendable, freshWorld, lineAt}
-use Rattle.ledger.proofs.Stands.{seen, Starts, Stands, rows-front, segment-front, apply-stands, step-stands, boot-stands}
+use Rattle.ledger.proofs.Stands.{seen, Starts, Stands, rows-front, apply-stands, step-stands, boot-stands}
 use Rattle.ledger.proofs.Left.{Left, apply-left, step-left, boot-left}
 
 -- the views of all calls, one after the other
@@ -121,7 +122,7 @@ module _ (c : Config) (r s : ℕ) (w : World) (v : View) (f : Follows c r s w v)
             record {
               config = t .config;
               view = ap (λ (y : List Entry). record { status = b .status; startSeq = x .startSeq; segments = b .segments; line = y }) (ap lineOf (rows-front vs (drop (n .rows) (w .rows)) (b .rows) (l .room))) ∙ t .view;
-              start = λ z. ap (λ (g : Segment). g .«start_seq») (segment-front tg (drop (n .segments) (w .segments)) (b .segments - 1) (omega (arith, l .listed, z))) ∙ t .start z;
+              start = λ z. ap (λ (g : Segment). g .«start_seq») (last-front tg (drop (n .segments) (w .segments)) (b .segments) (l .listed)) ∙ t .start z;
               sound = broken-rows b (vs ++ drop (n .rows) (w .rows)) vs (rows-front vs (drop (n .rows) (w .rows)) (b .rows) (l .room)) ∙ t .sound;
             };
         wide = back-length (n .rows) (w .rows) vs (l .rows) ∙ f .wide;
@@ -167,8 +168,8 @@ module _ (c : Config) (r s : ℕ) (w : World) (v : View) (f : Follows c r s w v)
 
     pub starts-now : Starts (v .startSeq) (w .book) sg
     starts-now z =
-        ap (λ (g : Segment). g .«start_seq») (sym (segment-front sg (drop (n .segments) (w .segments)) (w .book .segments - 1) (omega (arith, few-segments, lent-segments, z))))
-        ∙ ap (λ (x : List Segment). segmentAt x (w .book .segments - 1) .«start_seq») (take-append-drop (n .segments) (w .segments))
+        ap (λ (g : Segment). g .«start_seq») (sym (last-front sg (drop (n .segments) (w .segments)) (w .book .segments) (omega (arith, few-segments, lent-segments))))
+        ∙ ap (λ (x : List Segment). lastSegment x (w .book .segments) .«start_seq») (take-append-drop (n .segments) (w .segments))
         ∙ f .stands .start z
 
   -- lent too little: 1 or 2, and nothing moves

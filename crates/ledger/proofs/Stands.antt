@@ -1,6 +1,6 @@
 -- What a state with its lent memory stands for in the ledger's view, and that each call keeps it.
 -- Assumes nothing.
-use Prim.Native.Nat.{ℕ, zero, suc, _+_, _*_, _-_, _≤_, _<_}
+use Prim.Native.Nat.{ℕ, zero, suc, _+_, _*_, _≤_, _<_}
 use native.Mathlib.Omega.{arith}
 use mathlib.Core.Bool.{Bool, true, false, not, _||_, cond}
 use mathlib.Core.Path.{_≡_, refl, sym, ap, subst, _∙_}
@@ -8,6 +8,7 @@ use mathlib.Core.List.{List, [], _∷_, _++_, map}
 use mathlib.Core.Option.{Option, none, some}
 use borrow.Author.Tests.{eqb-false}
 use lib.Dec.{eqb}
+use native.Mathlib.Numerals.{add-one}
 use lib.ListN.{length, set, length-map, List·getD-append}
 use lib.Seq.{getD-set-same}
 use Rattle.laws.proofs.Bools.{or-no}
@@ -21,7 +22,7 @@ use Rattle.reconstructor_answers.specs.declared.ApplyAnswer.{ApplyAnswer}
 use Rattle.reconstructor_answers.specs.declared.ApplyAnswer.the-variants as answers
 use Rattle.reconstructor_answers.specs.declared.InvalidationKind.{InvalidationKind}
 use Rattle.reconstructor_segments.specs.declared.Segment.{Segment}
-use Rattle.reconstructor_segments.specs.Segments.{noSegment, segmentAt, sameSegment, started}
+use Rattle.reconstructor_segments.specs.Segments.{noSegment, segmentAt, lastSegment, sameSegment, started}
 use Rattle.reconstructor_state.specs.declared.Status.the-variants.{Valid}
 use Rattle.reconstructor_state.specs.declared.BookReconstructor.{BookReconstructor}
 use Rattle.reconstructor_state.specs.State.{View, viewOf, lengthsOf, lastOf, withCounts}
@@ -56,7 +57,7 @@ abbrev pub seen : ℕ → BookReconstructor → List ℕ → View
 seen start b ws = record { status = b .status; startSeq = start; segments = b .segments; line = lineOf (rowsOf ws (b .rows)) }
 
 abbrev pub Starts : ℕ → BookReconstructor → List Segment → Type 0
-Starts start b sg = 0 < b .segments → segmentAt sg (b .segments - 1) .«start_seq» ≡ start
+Starts start b sg = 0 < b .segments → lastSegment sg (b .segments) .«start_seq» ≡ start
 
 pub record Stands (c : Config) (b : BookReconstructor) (ws : List ℕ) (sg : List Segment) (v : View) : Type 0 where
   pub config : configOf b ≡ c
@@ -74,16 +75,13 @@ start-kept m (invalidates k) w = refl
 start-kept m dropped w = refl
 start-kept m accepted w = refl
 
--- ---- a prefix that is long enough has the same rows and records
+-- ---- a prefix that is long enough has the same rows
 
 row-front : (a b : List ℕ) (i : ℕ) → 8 * i + 8 ≤ length a → rowAt (a ++ b) i ≡ rowAt a i
 row-front a b i h = row-same (a ++ b) a i i (λ f q. List·getD-append a b 0 (8 * i + f) (omega arith))
 
 pub rows-front : (a b : List ℕ) (n : ℕ) → 8 * n ≤ length a → rowsOf (a ++ b) n ≡ rowsOf a n
 rows-front a b n h = rows-same (a ++ b) a 0 0 n (λ f q. row-front a b (0 + f) (omega arith))
-
-pub segment-front : (a b : List Segment) (i : ℕ) → i < length a → segmentAt (a ++ b) i ≡ segmentAt a i
-segment-front a b i h = List·getD-append a b noSegment i h
 
 -- ---- a record replaced by one of its start keeps the start; past the end nothing is replaced
 
@@ -101,9 +99,10 @@ next-start g answers.NotBootstrapped seq time = refl
 next-start g (answers.Invalidated i) seq time = refl
 next-start g (answers.AwaitingSnapshot i) seq time = refl
 
-recorded-start : (sg : List Segment) (n : ℕ) (m : L3Message) (a : ApplyAnswer) → segmentAt (recorded sg n m a) (n - 1) .«start_seq» ≡ segmentAt sg (n - 1) .«start_seq»
+recorded-start : (sg : List Segment) (n : ℕ) (m : L3Message) (a : ApplyAnswer) → lastSegment (recorded sg n m a) n .«start_seq» ≡ lastSegment sg n .«start_seq»
 unfolding recorded
-recorded-start sg n m a = start-set sg (n - 1) _ (next-start (segmentAt sg (n - 1)) a (m .sequence) (m .«time_us»))
+recorded-start sg zero m a = refl
+recorded-start sg (suc n) m a = start-set sg n _ (next-start (segmentAt sg n) a (m .sequence) (m .«time_us»))
 
 pub own-none : (b : BookReconstructor) (ws : List ℕ) (sg : List Segment) → Usable ceiling b ws (length sg) → stateRefusal ceiling (b .rules) (lengthsOf ws sg) false (b .segments) ≡ none
 unfolding stateRefusal
@@ -268,8 +267,7 @@ module _ (b : BookReconstructor) (ws : List ℕ) (sg : List Segment) (s : ℕ) (
       left-start z =
           let a = is-accepted ceiling b ws sg bytes q in
           let c = length-closed (b .status) sg (b .segments) in
-          let k : b .segments + 1 - 1 ≡ b .segments = omega arith in
-          ap (λ (i : ℕ). segmentAt (left .segments) i .«start_seq») k
+          ap (λ (n : ℕ). lastSegment (left .segments) n .«start_seq») (add-one (b .segments))
           ∙ ap (λ (g : Segment). g .«start_seq») (getD-set-same (closed (b .status) sg (b .segments)) (b .segments) (started (x .sequence)) noSegment (omega (arith, a .room, c)))
 
       left-stands : Stands (configOf b) (left .book) (left .rows) (left .segments) (snapView x bytes (seen s b ws))

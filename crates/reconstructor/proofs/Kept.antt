@@ -1,7 +1,7 @@
 -- What a call keeps: a usable state stays usable, so that number 3 never arises later; a refusal leaves all but the counts that 01 names; 16 leaves
 -- the rows.
 -- Assumes nothing.
-use Prim.Native.Nat.{ℕ, _-_, _<_}
+use Prim.Native.Nat.{ℕ, _<_}
 use mathlib.Core.Path.{_≡_, refl, sym, _∙_, ap}
 use mathlib.Core.Bool.{Bool, false, true}
 use mathlib.Core.List.{List}
@@ -9,7 +9,8 @@ use mathlib.Core.Option.{Option, none, some}
 use native.Mathlib.Omega.{arith}
 use borrow.Author.Tests.{ne-eqb, not-false}
 use lib.Dec.{eqb}
-use lib.ListN.{length, length-set}
+use lib.ListN.{length}
+use Rattle.reconstructor_segments.proofs.Last.{length-relast}
 use Rattle.message.specs.declared.L3Message.{L3Message}
 use Rattle.message.specs.Values.{eventInRange}
 use Rattle.book.specs.declared.Resting.{Resting}
@@ -94,7 +95,7 @@ stale-rows top b ws sg m i h = gated-stale b ws sg m (bookGate top b ws sg m) i 
 
 pub recorded-length : (sg : List Segment) (n : ℕ) (m : L3Message) (a : ApplyAnswer) → length (recorded sg n m a) ≡ length sg
 unfolding recorded
-recorded-length sg n m a = length-set sg (n - 1) _
+recorded-length sg n m a = length-relast sg n _
 
 counts-sound : (b : BookReconstructor) (ws : List ℕ) (k : MessageCounts) → broken b ws ≡ false → broken (withCounts b k) ws ≡ false
 unfolding broken

@@ -2,3 +2,5 @@ pub mod Laws
 pub mod Kept
 pub mod ByValue
 pub mod ApplyShell
+pub mod Lent
+pub mod AcceptShell

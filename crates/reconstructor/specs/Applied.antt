@@ -1,8 +1,8 @@
 -- One message applied to a book: the answer, the state and the lent memory afterwards, for every input.
-use Prim.Native.Nat.{ℕ, _-_}
+use Prim.Native.Nat.{ℕ}
 use mathlib.Core.List.{List}
 use mathlib.Core.Option.{Option, none, some}
-use lib.ListN.{length, set}
+use lib.ListN.{length}
 use Rattle.message.specs.declared.L3Message.{L3Message}
 use Rattle.book.specs.Rows.{rowsOf, lineOf, stored}
 use Rattle.reconstructor_answers.specs.declared.Applied.{Applied}
@@ -15,7 +15,7 @@ use Rattle.reconstructor_answers.specs.declared.ApplyAnswer.{ApplyAnswer}
 use Rattle.reconstructor_answers.specs.declared.ApplyAnswer.the-variants as answers
 use Rattle.reconstructor_state.specs.declared.BookReconstructor.{BookReconstructor}
 use Rattle.reconstructor_counts.specs.Counts.{counted, countedAt}
-use Rattle.reconstructor_segments.specs.Segments.{segmentAt, extended, ended}
+use Rattle.reconstructor_segments.specs.Segments.{lastSegment, relast, extended, ended}
 use Rattle.reconstructor_state.specs.State.{with, withCounts, withStatus, lastOf, viewOf, lengthsOf}
 use Rattle.reconstructor_checks.specs.Own.{broken}
 use Rattle.reconstructor_plan.specs.Rules.{Deed, eventDeed}
@@ -68,7 +68,11 @@ unfoldable pub invalidatedReply : BookReconstructor → ℕ → ℕ → Invalida
 invalidatedReply b last seq k =
     record { answer = answers.Invalidated (invalidation last seq k); book = withStatus b (Invalidated (invalidation last seq k)) }
 
--- "Acceptance sets last sequence .. and adds one to one counter"
+-- "Acceptance sets last sequence"
+unfoldable pub advancedReply : BookReconstructor → ℕ → ℕ → Applied → Reply
+advancedReply b seq n a = record { answer = answers.Applied a; book = with b (Valid seq) n (b .counts) }
+
+-- ".. and adds one to one counter"
 unfoldable pub acceptedReply : BookReconstructor → ℕ → ℕ → Counter → Applied → Reply
 acceptedReply b seq n k a = record { answer = answers.Applied a; book = with b (Valid seq) n (counted (b .counts) k) }
 
@@ -86,9 +90,9 @@ nextSegment g answers.NotBootstrapped seq time = g
 nextSegment g (answers.Invalidated i) seq time = ended g i
 nextSegment g (answers.AwaitingSnapshot i) seq time = g
 
--- the last of n records
+-- the last of n records; before any snapshot there is none
 unfoldable pub recorded : List Segment → ℕ → L3Message → ApplyAnswer → List Segment
-recorded sg n m a = set sg (n - 1) (nextSegment (segmentAt sg (n - 1)) a (m .sequence) (m .«time_us»))
+recorded sg n m a = relast sg n (nextSegment (lastSegment sg n) a (m .sequence) (m .«time_us»))
 
 -- ---- the whole
 

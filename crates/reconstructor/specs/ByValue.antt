@@ -1,13 +1,13 @@
 -- One message applied to a book whose last segment's record is at hand by value: the work behind `applied`, which the code does before it writes that record
 -- back. Nothing here is for a reader to believe: `applied` is proved to be this with the record rewritten (proofs/ByValue.antt).
-use Prim.Native.Nat.{ℕ, _-_}
+use Prim.Native.Nat.{ℕ}
 use mathlib.Core.List.{List}
 use mathlib.Core.Option.{Option, none, some}
-use lib.ListN.{set}
 use Rattle.message.specs.declared.L3Message.{L3Message}
 use Rattle.reconstructor_answers.specs.declared.ApplyAnswer.{ApplyAnswer}
 use Rattle.reconstructor_answers.specs.declared.ApplyAnswer.the-variants.{Unusable}
 use Rattle.reconstructor_segments.specs.declared.Segment.{Segment}
+use Rattle.reconstructor_segments.specs.Segments.{relast}
 use Rattle.reconstructor_state.specs.declared.BookReconstructor.{BookReconstructor}
 use Rattle.reconstructor_state.specs.Checks.{first}
 use Rattle.reconstructor_state.specs.State.{lastOf}
@@ -47,7 +47,7 @@ appliedTo top b ws lent g m =
 
 -- the record written back as the last of a list's first n
 abbrev pub relisted : List Segment → ℕ → Worked → Parts
-relisted sg n w = record { answer = w .answer; book = w .book; rows = w .rows; segments = set sg (n - 1) (w .segment) }
+relisted sg n w = record { answer = w .answer; book = w .book; rows = w .rows; segments = relast sg n (w .segment) }
 
 abbrev pub replyOf : Work → Reply
 replyOf w = record { book = w .book; answer = w .answer }

@@ -21,7 +21,7 @@ ghost use Rattle.reconstructor_checks.specs.Own.{Trusted};
 ghost use Rattle.reconstructor_plan.specs.Rules.{eventDeed};
 ghost use Rattle.reconstructor_plan.specs.Plans.{Ready, PlanFits, deedOf};
 ghost use Rattle.reconstructor.specs.Refusals.{admitRefusal, turnRefusal};
-ghost use Rattle.reconstructor.specs.Applied.{refusedReply, invalidatedReply, acceptedReply, accepted, core, turned, nextSegment, leaves, applied};
+ghost use Rattle.reconstructor.specs.Applied.{refusedReply, invalidatedReply, advancedReply, acceptedReply, accepted, core, turned, nextSegment, leaves, applied};
 ghost use Rattle.reconstructor.specs.ByValue.{worked, trustedTo, appliedTo, replyOf};
 ghost use Rattle.reconstructor.specs.Steps.{AdmitsFor, TurnsFor};
 
@@ -113,9 +113,21 @@ fn invalidated(book: BookReconstructor, last: u64, seq: u64, kind: InvalidationK
     }
 }
 
-// The message is applied, and so many rows are in use.
+// What an accepted message leaves, once it is counted: its sequence, and so many rows in use.
+fn advanced(book: BookReconstructor, seq: u64, rows: usize, applied: Applied) -> Reply
+    ensures { λ r. ⌜ r ≡ advancedReply book seq rows applied ⌝ }
+{
+    let mut next = book.with_status(Status::Valid { last_seq: seq });
+    next.rows = rows;
+    Reply {
+        book: next,
+        answer: ApplyAnswer::Applied(applied),
+    }
+}
+
+// The message is accepted: one of the state's counts, lent, is raised in place.
 fn accepted(
-    book: BookReconstructor,
+    mut book: BookReconstructor,
     seq: u64,
     rows: usize,
     counter: Counter,
@@ -123,14 +135,8 @@ fn accepted(
 ) -> Reply
     ensures { λ r. ⌜ r ≡ acceptedReply book seq rows counter applied ⌝ }
 {
-    let counts = book.counts;
-    let mut next = book.with_counts(counts.counted(counter))
-        .with_status(Status::Valid { last_seq: seq });
-    next.rows = rows;
-    Reply {
-        book: next,
-        answer: ApplyAnswer::Applied(applied),
-    }
+    reconstructor_counts::count(&mut book.counts, counter);
+    advanced(book, seq, rows, applied)
 }
 
 // What comes before the sequence in a state that passed 1, 2 and 3: 5, 10, 15, 17.

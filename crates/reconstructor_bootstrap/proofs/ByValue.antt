@@ -1,17 +1,18 @@
 -- `bootstrapped` is the work by value with the records written: the last one back, and then the started one.
 -- Assumes nothing.
-use Prim.Native.Nat.{ℕ, _-_}
+use Prim.Native.Nat.{ℕ}
 use mathlib.Core.Path.{_≡_, refl, sym, ap, _∙_}
 use mathlib.Core.List.{List}
 use mathlib.Core.Option.{Option, none, some}
 use native.Mathlib.Omega.{arith}
 use lib.ListN.{length, set}
-use lib.Seq.{set-getD, set-out}
+use lib.Seq.{set-out}
 use Rattle.piece.specs.declared.ReadSnapshot.{ReadSnapshot}
 use Rattle.piece.specs.declared.ReadSnapshot.the-variants.{Snapshot, Refused}
 use Rattle.piece.specs.Piece.{readSnapshot}
 use Rattle.reconstructor_segments.specs.declared.Segment.{Segment}
-use Rattle.reconstructor_segments.specs.Segments.{noSegment, segmentAt}
+use Rattle.reconstructor_segments.specs.Segments.{noSegment, lastSegment, relast}
+use Rattle.reconstructor_segments.proofs.Last.{relast-same}
 use Rattle.reconstructor_state.specs.declared.Status.{Status}
 use Rattle.reconstructor_state.specs.declared.Status.the-variants.{Empty, Valid, Invalidated}
 use Rattle.reconstructor_state.specs.declared.BookReconstructor.{BookReconstructor}
@@ -24,19 +25,19 @@ use Rattle.reconstructor_bootstrap.specs.ByValue.{booted, refusedWork, c
 
 module _ (b : BookReconstructor) (ws : List ℕ) (sg : List Segment) where
   abbrev last : Segment
-  last = segmentAt sg (b .segments - 1)
+  last = lastSegment sg (b .segments)
 
-  same : set (set sg (b .segments - 1) last) (length sg) noSegment ≡ sg
-  same = ap (λ l. set l (length sg) noSegment) (set-getD sg (b .segments - 1) noSegment) ∙ set-out sg (length sg) noSegment (omega arith)
+  same : set (relast sg (b .segments) last) (length sg) noSegment ≡ sg
+  same = ap (λ l. set l (length sg) noSegment) (relast-same sg (b .segments)) ∙ set-out sg (length sg) noSegment (omega arith)
 
   refused-twin : (a : SnapshotAnswer) → refused a b ws sg ≡ relisted sg (b .segments) (booted (refusedWork a b (length sg) last) ws)
   refused-twin a = ap (λ l. refused a b ws l) (sym same)
 
-  closed-twin : (st : Status) → closed st sg (b .segments) ≡ set sg (b .segments - 1) (closedTo st last)
+  closed-twin : (st : Status) → closed st sg (b .segments) ≡ relast sg (b .segments) (closedTo st last)
   unfolding closed closedTo
-  closed-twin Empty = sym (set-getD sg (b .segments - 1) noSegment)
+  closed-twin Empty = sym (relast-same sg (b .segments))
   closed-twin (Valid k) = refl
-  closed-twin (Invalidated i) = sym (set-getD sg (b .segments - 1) noSegment)
+  closed-twin (Invalidated i) = sym (relast-same sg (b .segments))
 
   taken-twin : (r : ReadSnapshot) (bytes : List ℕ) → taken r b ws sg bytes ≡ relisted sg (b .segments) (takenTo r b ws (length sg) last bytes)
   taken-twin (Refused e) bytes = refused-twin (pieceAnswer e)
@@ -48,7 +49,7 @@ module _ (b : BookReconstructor) (ws : List ℕ) (sg : List Segment) where
   settled-twin none r bytes = taken-twin r bytes
 
 pub bootstrapped-by-value : (top : ℕ) (b : BookReconstructor) (ws : List ℕ) (sg : List Segment) (bytes : List ℕ)
-    → bootstrapped top b ws sg bytes ≡ relisted sg (b .segments) (bootstrappedTo top b ws (length sg) (segmentAt sg (b .segments - 1)) bytes)
+    → bootstrapped top b ws sg bytes ≡ relisted sg (b .segments) (bootstrappedTo top b ws (length sg) (lastSegment sg (b .segments)) bytes)
 unfolding bootstrapped bootstrappedTo
 bootstrapped-by-value top b ws sg bytes =
     settled-twin b ws sg (bootRefusal top (b .«product_id») (b .rules) (lengthsOf ws sg) (broken b ws) (viewOf b ws sg) bytes) (readSnapshot bytes) bytes

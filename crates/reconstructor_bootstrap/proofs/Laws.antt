@@ -1,6 +1,6 @@
 -- What a host may rely on: an accepted snapshot leaves a usable, well-formed book; a refused one leaves the book as it was.
 -- Assumes nothing.
-use Prim.Native.Nat.{ℕ, zero, suc, _+_, _*_, _-_, _<_}
+use Prim.Native.Nat.{ℕ, zero, suc, _+_, _*_, _<_}
 use mathlib.Core.Path.{_≡_, refl, sym, ap, subst, _∙_}
 use mathlib.Core.Bool.{Bool, true, false, cond, _&&_}
 use mathlib.Core.List.{List, [], map}
@@ -27,7 +27,8 @@ use Rattle.reconstructor_answers.specs.declared.StateError.the-variants.{LimitA
 use Rattle.reconstructor_state.specs.Checks.{check, first}
 use Rattle.reconstructor_state.specs.declared.BookReconstructor.{BookReconstructor}
 use Rattle.reconstructor_segments.specs.declared.Segment.{Segment}
-use Rattle.reconstructor_segments.specs.Segments.{segmentAt, superseded, started}
+use Rattle.reconstructor_segments.specs.Segments.{lastSegment, superseded, started}
+use Rattle.reconstructor_segments.proofs.Last.{length-relast}
 use Rattle.reconstructor_state.specs.State.{viewOf, lengthsOf, withCounts}
 use Rattle.reconstructor_checks.specs.Own.{broken, bookRefusal, Usable}
 use Rattle.reconstructor_bootstrap.specs.declared.SnapshotError.{SnapshotError}
@@ -146,7 +147,7 @@ is-accepted top b ws sg bytes h = go (readSnapshot bytes) refl (first-passed _ _
 pub length-closed : (st : Status) (sg : List Segment) (n : ℕ) → length (closed st sg n) ≡ length sg
 unfolding closed
 length-closed Empty sg n = refl
-length-closed (Valid last) sg n = length-set sg (n - 1) (superseded (segmentAt sg (n - 1)))
+length-closed (Valid last) sg n = length-relast sg n (superseded (lastSegment sg n))
 length-closed (Invalidated i) sg n = refl
 
 -- the rows that it leaves are well formed

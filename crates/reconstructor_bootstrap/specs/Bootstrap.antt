@@ -1,5 +1,5 @@
 -- What `bootstrap` answers and leaves: the state, the rows and the segment list.
-use Prim.Native.Nat.{ℕ, _+_, _-_}
+use Prim.Native.Nat.{ℕ, _+_}
 use mathlib.Core.List.{List, map}
 use mathlib.Core.Option.{Option, none, some}
 use lib.ListN.{length, set}
@@ -13,7 +13,7 @@ use Rattle.reconstructor_state.specs.declared.Status.the-variants.{Empty, Valid
 use Rattle.reconstructor_state.specs.declared.BookReconstructor.{BookReconstructor}
 use Rattle.reconstructor_counts.specs.Counts.{countedAt}
 use Rattle.reconstructor_segments.specs.declared.Segment.{Segment}
-use Rattle.reconstructor_segments.specs.Segments.{segmentAt, started, superseded}
+use Rattle.reconstructor_segments.specs.Segments.{lastSegment, relast, started, superseded}
 use Rattle.reconstructor_state.specs.State.{withCounts, viewOf, lengthsOf}
 use Rattle.reconstructor_checks.specs.Own.{broken}
 use Rattle.reconstructor_bootstrap.specs.declared.SnapshotError.{SnapshotError}
@@ -66,7 +66,7 @@ bootedBook b sequence n =
 -- "Acceptance ends an open segment as superseded": the last of n, which is open while the book is valid
 unfoldable pub closed : Status → List Segment → ℕ → List Segment
 closed Empty sg n = sg
-closed (Valid last) sg n = set sg (n - 1) (superseded (segmentAt sg (n - 1)))
+closed (Valid last) sg n = relast sg n (superseded (lastSegment sg n))
 closed (Invalidated i) sg n = sg
 
 -- "adds a segment"

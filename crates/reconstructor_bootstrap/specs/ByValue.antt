@@ -1,6 +1,6 @@
 -- A snapshot taken by a book whose last segment's record is at hand by value: the work behind `bootstrapped`, which the code does before it writes that record
 -- back and starts another. Nothing here is for a reader to believe: `bootstrapped` is proved to be this with the records written (proofs/ByValue.antt).
-use Prim.Native.Nat.{ℕ, _-_}
+use Prim.Native.Nat.{ℕ}
 use mathlib.Core.List.{List, map}
 use mathlib.Core.Option.{Option, none, some}
 use lib.ListN.{length, set}
@@ -11,7 +11,7 @@ use Rattle.piece.specs.Piece.{readSnapshot}
 use Rattle.book.specs.Line.{Entry}
 use Rattle.book.specs.Rows.{stored, snapshotRow}
 use Rattle.reconstructor_segments.specs.declared.Segment.{Segment}
-use Rattle.reconstructor_segments.specs.Segments.{noSegment, started, superseded}
+use Rattle.reconstructor_segments.specs.Segments.{noSegment, relast, started, superseded}
 use Rattle.reconstructor_state.specs.declared.Status.{Status}
 use Rattle.reconstructor_state.specs.declared.Status.the-variants.{Empty, Valid, Invalidated}
 use Rattle.reconstructor_state.specs.declared.BookReconstructor.{BookReconstructor}
@@ -89,7 +89,7 @@ relisted sg n w =
       answer = w .answer;
       book = w .book;
       rows = w .rows;
-      segments = set (set sg (n - 1) (w .segment)) (w .at) (w .started);
+      segments = set (relast sg n (w .segment)) (w .at) (w .started);
     }
 
 abbrev pub replyOf : Work → Reply

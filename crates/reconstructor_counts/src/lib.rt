@@ -43,11 +43,20 @@ pub fn saturating_next(x: u64) -> u64
     if x < 18446744073709551615 { x + 1 } else { x }
 }
 
-// Alters one of the lent counts in place.
+// Adds one to the counter named, in place: the other eleven are neither read nor written.
 pub fn count(counts: &mut MessageCounts, which: Counter)
     ensures { λ _. ⌜ now (counts .exit) ≡ counted (now (counts .entry)) which ⌝ }
 {
-    *counts = (*counts).raised(which);
+    match which {
+        Counter::Received => counts.received = saturating_next(counts.received),
+        Counter::Open => counts.open = saturating_next(counts.open),
+        Counter::Done => counts.done = saturating_next(counts.done),
+        Counter::Matched => counts.matched = saturating_next(counts.matched),
+        Counter::Stp => counts.stp_decrease = saturating_next(counts.stp_decrease),
+        Counter::OffBookDone => counts.off_book_done = saturating_next(counts.off_book_done),
+        Counter::OffBookChange => counts.off_book_change = saturating_next(counts.off_book_change),
+        Counter::NoopChange => counts.noop_change = saturating_next(counts.noop_change),
+    }
 }
 
 impl MessageCounts {
@@ -68,55 +77,6 @@ impl MessageCounts {
             wrong_product: 0,
             rejected_snapshots: 0,
         }
-    }
-
-    // The counts by value, with one added to the counter named: what `count` stores.
-    fn raised(mut self, which: Counter) -> Self
-        ensures { λ r. ⌜ r ≡ counted self which ⌝ }
-    {
-        match which {
-            Counter::Received => {
-                self.received = saturating_next(self.received);
-                self
-            }
-            Counter::Open => {
-                self.open = saturating_next(self.open);
-                self
-            }
-            Counter::Done => {
-                self.done = saturating_next(self.done);
-                self
-            }
-            Counter::Matched => {
-                self.matched = saturating_next(self.matched);
-                self
-            }
-            Counter::Stp => {
-                self.stp_decrease = saturating_next(self.stp_decrease);
-                self
-            }
-            Counter::OffBookDone => {
-                self.off_book_done = saturating_next(self.off_book_done);
-                self
-            }
-            Counter::OffBookChange => {
-                self.off_book_change = saturating_next(self.off_book_change);
-                self
-            }
-            Counter::NoopChange => {
-                self.noop_change = saturating_next(self.noop_change);
-                self
-            }
-        }
-    }
-
-    // An accepted message adds one to one counter. By value, so that no caller proves a borrow.
-    pub fn counted(self, which: Counter) -> Self
-        ensures { λ r. ⌜ r ≡ counted self which ⌝ }
-    {
-        let mut counts = self;
-        count(&mut counts, which);
-        counts
     }
 
     pub fn handshake_dropped(mut self) -> Self

@@ -1,18 +1,18 @@
 -- `stepped` is the work by value with the last segment's record written back.
 -- Assumes nothing.
-use Prim.Native.Nat.{ℕ, _-_}
+use Prim.Native.Nat.{ℕ}
 use mathlib.Core.Path.{_≡_, refl, sym, ap, _∙_}
 use mathlib.Core.Bool.{Bool, true, false, not}
 use mathlib.Core.List.{List}
 use mathlib.Core.Option.{Option, none, some}
 use lib.ListN.{length}
-use lib.Seq.{set-getD}
 use Rattle.message.specs.declared.L3Message.{L3Message}
 use Rattle.message.specs.Values.{eventInRange}
 use Rattle.book.specs.Rows.{ceiling}
 use Rattle.reconstructor_answers.specs.declared.StateError.{StateError}
 use Rattle.reconstructor_segments.specs.declared.Segment.{Segment}
-use Rattle.reconstructor_segments.specs.Segments.{noSegment, segmentAt}
+use Rattle.reconstructor_segments.specs.Segments.{lastSegment}
+use Rattle.reconstructor_segments.proofs.Last.{relast-same}
 use Rattle.reconstructor_state.specs.declared.BookReconstructor.{BookReconstructor}
 use Rattle.reconstructor_state.specs.Checks.{check}
 use Rattle.reconstructor_state.specs.State.{segmentOf}
@@ -27,11 +27,11 @@ use Rattle.reconstructor_handshake.proofs.Step.{unusable-step, other-st
 
 module _ (h : Handshake) (b : BookReconstructor) (ws : List ℕ) (sg : List Segment) (m : L3Message) where
   abbrev last : Segment
-  last = segmentAt sg (b .segments - 1)
+  last = lastSegment sg (b .segments)
 
   -- the record written back as it was
   kept : (a : StepAnswer) (c : BookReconstructor) → unchanged a h c ws sg ≡ relistedStep sg (b .segments) (unchangedTo a h c ws last)
-  kept a c = ap (unchanged a h c ws) (sym (set-getD sg (b .segments - 1) noSegment))
+  kept a c = ap (unchanged a h c ws) (sym (relast-same sg (b .segments)))
 
   module _ (q : bookRefusal ceiling b ws (length sg) ≡ none) where
     passed-step : stepped ceiling h b ws sg m ≡ relistedStep sg (b .segments) (stepTo h b ws last m)

@@ -1,3 +1,4 @@
+pub mod After
 pub mod Step
 pub mod ByValue
 pub mod StepShell

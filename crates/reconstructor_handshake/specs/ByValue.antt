@@ -1,16 +1,17 @@
 -- A step on a book whose last segment's record is at hand by value: the work behind `stepped`, which the code does before it writes that record back. Nothing
 -- here is for a reader to believe: `stepped` is proved to be this with the record rewritten (proofs/ByValue.antt).
-use Prim.Native.Nat.{ℕ, _-_}
-use mathlib.Core.Bool.{not, cond}
+use Prim.Native.Nat.{ℕ}
+use mathlib.Core.Bool.{Bool, true, false, not, cond}
 use mathlib.Core.List.{List}
 use mathlib.Core.Option.{Option, none, some}
-use lib.ListN.{set}
 use Rattle.message.specs.declared.L3Message.{L3Message}
 use Rattle.message.specs.Values.{eventInRange}
 use Rattle.reconstructor_answers.specs.declared.StateError.{StateError}
+use Rattle.reconstructor_answers.specs.declared.ApplyAnswer.{ApplyAnswer}
 use Rattle.reconstructor_answers.specs.declared.ApplyAnswer.the-variants as answers
-use Rattle.reconstructor_counts.specs.Counts.{countedAt}
+use Rattle.reconstructor_counts.specs.Counts.{saturated, countedAt}
 use Rattle.reconstructor_segments.specs.declared.Segment.{Segment}
+use Rattle.reconstructor_segments.specs.Segments.{relast}
 use Rattle.reconstructor_state.specs.declared.BookReconstructor.{BookReconstructor}
 use Rattle.reconstructor_state.specs.Checks.{check}
 use Rattle.reconstructor_state.specs.State.{withCounts, segmentOf}
@@ -22,6 +23,25 @@ use Rattle.reconstructor_handshake.specs.declared.StepAnswer.the-variant
 use Rattle.reconstructor_handshake.specs.declared.StepReply.{StepReply}
 use Rattle.reconstructor_handshake.specs.declared.StepWork.{StepWork}
 use Rattle.reconstructor_handshake.specs.Step.{otherSegment, drops, after, StepParts}
+
+-- the parts of `after`: whether an answer ends the handshake, and the number applied
+abbrev pub ends : ApplyAnswer → Bool
+ends (answers.Applied a) = false
+ends (answers.Unusable e) = false
+ends answers.AmountOutOfRange = false
+ends answers.WrongProduct = false
+ends answers.NotBootstrapped = false
+ends (answers.Invalidated i) = true
+ends (answers.AwaitingSnapshot i) = true
+
+abbrev pub appliedBy : ℕ → ApplyAnswer → ℕ
+appliedBy n (answers.Applied a) = saturated n
+appliedBy n (answers.Unusable e) = n
+appliedBy n answers.AmountOutOfRange = n
+appliedBy n answers.WrongProduct = n
+appliedBy n answers.NotBootstrapped = n
+appliedBy n (answers.Invalidated i) = n
+appliedBy n (answers.AwaitingSnapshot i) = n
 
 pub record StepWorked : Type 0 where
   pub answer : StepAnswer
@@ -69,7 +89,7 @@ steppedTo top h b ws lent g m = ownTo (bookRefusal top b ws lent) (stepTo h b ws
 -- the record written back as the last of a list's first n
 abbrev pub relistedStep : List Segment → ℕ → StepWorked → StepParts
 relistedStep sg n w =
-    record { answer = w .answer; handshake = w .handshake; book = w .book; rows = w .rows; segments = set sg (n - 1) (w .segment) }
+    record { answer = w .answer; handshake = w .handshake; book = w .book; rows = w .rows; segments = relast sg n (w .segment) }
 
 abbrev pub stepReplyOf : StepWork → StepReply
 stepReplyOf w = record { handshake = w .handshake; book = w .book; answer = w .answer }

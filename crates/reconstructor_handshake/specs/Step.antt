@@ -2,7 +2,7 @@
 -- after 1, 2, 3, 9, 5, the same product at or below that segment's start_seq, whatever the value holds, is dropped and counted; else `apply` decides. 10
 -- passes by; 16 or 17 ends the handshake; it keeps the number applied."
 use Prim.Native.Nat.{ℕ}
-use mathlib.Core.Bool.{Bool, true, false, not, _||_, _&&_, cond}
+use mathlib.Core.Bool.{Bool, true, not, _||_, _&&_, cond}
 use mathlib.Core.List.{List, []}
 use mathlib.Core.Option.{Option, none, some}
 use lib.Dec.{eqb, leb}
@@ -30,9 +30,9 @@ use Rattle.reconstructor_handshake.specs.declared.StepAnswer.{StepAnswer
 use Rattle.reconstructor_handshake.specs.declared.StepAnswer.the-variants.{Stepped, Dropped, OtherSegment}
 use Rattle.reconstructor_handshake.specs.declared.StepReply.{StepReply}
 
--- "a handshake value for that segment"
-abbrev pub newHandshake : SegmentName → Handshake
-newHandshake name = record { segment = name; ended = false; applied = 0 }
+-- "a handshake value for that segment": of a book in so many segments. Before any snapshot there is none, so that it has ended
+abbrev pub newHandshake : SegmentName → ℕ → Handshake
+newHandshake name segments = record { segment = name; ended = eqb segments 0; applied = 0 }
 
 -- ---- numbers
 

@@ -10,8 +10,8 @@ ghost use mathlib.Core.Path.{_≡_};
 ghost use Rattle.book.specs.Rows.{ceiling};
 ghost use Rattle.reconstructor_state.specs.State.{segmentOf};
 ghost use Rattle.reconstructor_checks.specs.Own.{Trusted};
-ghost use Rattle.reconstructor_handshake.specs.Step.{newHandshake, stepNumber, otherSegment, drops, with, after, stepLeaves, stepped};
-ghost use Rattle.reconstructor_handshake.specs.ByValue.{stepWorked, stepTo, steppedTo, stepReplyOf};
+ghost use Rattle.reconstructor_handshake.specs.Step.{newHandshake, stepNumber, otherSegment, drops, stepLeaves, stepped};
+ghost use Rattle.reconstructor_handshake.specs.ByValue.{ends, appliedBy, stepWorked, stepTo, steppedTo, stepReplyOf};
 
 // A handshake for one segment, with how many messages it applied. It hands itself back at each step.
 pub struct Handshake {
@@ -82,14 +82,44 @@ fn drops(product: ProductId, start_seq: u64, message: L3Message) -> bool
     message::same_product(got, product) & (message.sequence <= start_seq)
 }
 
+// Whether an answer of `apply` ends the handshake: 16 and 17 do.
+fn ends(answer: ApplyAnswer) -> bool
+    ensures { λ r. ⌜ r ≡ ends answer ⌝ }
+{
+    match answer {
+        ApplyAnswer::Applied(_) => false,
+        ApplyAnswer::Unusable(_) => false,
+        ApplyAnswer::AmountOutOfRange => false,
+        ApplyAnswer::WrongProduct => false,
+        ApplyAnswer::NotBootstrapped => false,
+        ApplyAnswer::Invalidated(_) => true,
+        ApplyAnswer::AwaitingSnapshot(_) => true,
+    }
+}
+
+// The number applied, once an answer is in.
+fn applied_by(applied: u64, answer: ApplyAnswer) -> u64
+    ensures { λ r. ⌜ r ≡ appliedBy applied answer ⌝ }
+{
+    match answer {
+        ApplyAnswer::Applied(_) => reconstructor_counts::saturating_next(applied),
+        ApplyAnswer::Unusable(_) => applied,
+        ApplyAnswer::AmountOutOfRange => applied,
+        ApplyAnswer::WrongProduct => applied,
+        ApplyAnswer::NotBootstrapped => applied,
+        ApplyAnswer::Invalidated(_) => applied,
+        ApplyAnswer::AwaitingSnapshot(_) => applied,
+    }
+}
+
 impl Handshake {
-    // The handshake of the segment that the book is in, once a snapshot is accepted.
+    // The handshake of the segment that the book is in. Before any snapshot there is none, and it has ended.
     pub fn new(book: BookReconstructor) -> Self
-        ensures { λ r. ⌜ r ≡ newHandshake (segmentOf book) ⌝ }
+        ensures { λ r. ⌜ r ≡ newHandshake (segmentOf book) (book .segments) ⌝ }
     {
         Self {
             segment: book.segment_name(),
-            ended: false,
+            ended: book.segments == 0,
             applied: 0,
         }
     }
@@ -101,37 +131,6 @@ impl Handshake {
         let segment = self.segment;
         let same = reconstructor_segments::same_segment(segment, book.segment_name());
         self.ended | ((book.segments == 0) | !same)
-    }
-
-    fn with(self, ended: bool, applied: u64) -> Self
-        ensures { λ r. ⌜ r ≡ with self ended applied ⌝ }
-    {
-        let segment = self.segment;
-        Self {
-            segment,
-            ended,
-            applied,
-        }
-    }
-
-    // What an answer of `apply` makes of it.
-    fn after(self, answer: ApplyAnswer) -> Self
-        ensures { λ r. ⌜ r ≡ after self answer ⌝ }
-    {
-        match answer {
-            ApplyAnswer::Applied(_) => {
-                self.with(
-                    self.ended,
-                    reconstructor_counts::saturating_next(self.applied),
-                )
-            }
-            ApplyAnswer::Unusable(_) => self,
-            ApplyAnswer::AmountOutOfRange => self,
-            ApplyAnswer::WrongProduct => self,
-            ApplyAnswer::NotBootstrapped => self,
-            ApplyAnswer::Invalidated(_) => self.with(true, self.applied),
-            ApplyAnswer::AwaitingSnapshot(_) => self.with(true, self.applied),
-        }
     }
 
     // A step that changes neither handshake nor record.
@@ -146,9 +145,9 @@ impl Handshake {
         }
     }
 
-    // A step of a state that passes 1, 2 and 3, with the last segment's record by value.
+    // A step of a state that passes 1, 2 and 3, with the last segment's record by value. It alters the handshake's end and its number applied, and hands it back.
     fn step_trusted(
-        self,
+        mut self,
         book: BookReconstructor,
         rows: &mut [u64],
         last: Segment,
@@ -175,8 +174,10 @@ impl Handshake {
         let next = work.book;
         let answer = work.answer;
         let segment = work.segment;
+        self.ended = self.ended | ends(answer);
+        self.applied = applied_by(self.applied, answer);
         StepWork {
-            handshake: self.after(answer),
+            handshake: self,
             book: next,
             answer: StepAnswer::Stepped(answer),
             segment,

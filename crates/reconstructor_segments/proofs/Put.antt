@@ -1,9 +1,9 @@
 -- The walk that `rewrite_last` and `append_segment` share: the code is the same but for the statement s that computes the place. Where the place is in the list, the record there is stored to whole.
---     Says at      the contract: the record is at the place `at count`, or nothing has changed
+--     Says put     the contract: the list at exit is `put` of the list, the count and the record
 --     function s   the MIR
---     walks        it walks to the contract, where s puts `at count` in its local
+--     walks        it walks to the contract, where s puts `at count` in its local, and `put` is a write at that place
 -- Nothing here depends on the struct's fields. Assumes nothing.
-use mathlib.Core.Path.{_≡_, refl, sym}
+use mathlib.Core.Path.{_≡_, refl, sym, _∙_}
 use Prim.Native.Nat.{ℕ, _<_, _^_, _*_}
 use native.Mathlib.Omega.{arith}
 use mathlib.Core.List.{[], _∷_, List}
@@ -57,8 +57,8 @@ stayed = (stay-slice (0 ∷ []) tt (plain (λ _. R)), (stay-dropped (plain (λ _
 pub goes : {M : Type 1} (𝓤 : URA M) (H : Heap 𝓤) (A : Atoms 𝓤) (W : Given 𝓤 H A) → AllGo 𝓤 H A W 1 (f.ended .signature .params) (f.ended .kept) stayed
 goes 𝓤 H A W = (goes-slice 𝓤 H A W 1 0 tt (plain (λ _. R)), (goes-dropped 𝓤 H A W 1 (plain (λ _. usize)) yes (λ κs x f. refl), (goes-dropped 𝓤 H A W 1 (plain (λ _. R)) yes (λ κs x f. refl), tt)))
 
-abbrev pub Says : {M : Type 1} (𝓤 : URA M) → (ℕ → ℕ) → Clauses 𝓤 f.ended
-Says 𝓤 at κs a = record { ghost = Unit {0}; requires = λ g. emp 𝓤; ensures = λ g r e. fact 𝓤 (now (e .0) ≡ set (now (a .0)) (at (a .1 .0)) (a .1 .1 .0)) }
+abbrev pub Says : {M : Type 1} (𝓤 : URA M) → (List Segment → ℕ → Segment → List Segment) → Clauses 𝓤 f.ended
+Says 𝓤 put κs a = record { ghost = Unit {0}; requires = λ g. emp 𝓤; ensures = λ g r e. fact 𝓤 (now (e .0) ≡ put (now (a .0)) (a .1 .0) (a .1 .1 .0)) }
 
 -- the locals' types, and the code
 abbrev slice : Ty
@@ -77,7 +77,7 @@ body = seq (assign (local-at 5) (rvOpd (copy (place 1 (field 1 ∷ []))))) (seq 
 abbrev pub function : Body → Fn
 function s = record { lifetimes = 1; outlives = []; params = 3; locals = local tyUnit valueLocal ∷ local slice valueLocal ∷ local (tyInt w64) valueLocal ∷ local T′.mir valueLocal ∷ local (tyInt w64) valueLocal ∷ local (tyInt w64) valueLocal ∷ local tyBool valueLocal ∷ local (tyInt w64) valueLocal ∷ local tyPtr valueLocal ∷ []; body = seq s body }
 
-module _ {M : Type 1} (𝓤 : URA M) (H : Heap 𝓤) (A : Atoms 𝓤) (W : Given 𝓤 H A) (at : ℕ → ℕ) (C : Calls 𝓤 H) (Λ : Loops 𝓤 H) (s : Body) where
+module _ {M : Type 1} (𝓤 : URA M) (H : Heap 𝓤) (A : Atoms 𝓤) (W : Given 𝓤 H A) (at : ℕ → ℕ) (put : List Segment → ℕ → Segment → List Segment) (is-put : (ys : List Segment) → length ys < 2 ^ 64 → (n : ℕ) (g : Segment) → set ys (at n) g ≡ put ys n g) (C : Calls 𝓤 H) (Λ : Loops 𝓤 H) (s : Body) where
   abbrev E : (l₀ l₁ l₂ l₃ l₄ l₅ l₆ l₇ l₈ : ℕ) → List (Ty × ℕ)
   E l₀ l₁ l₂ l₃ l₄ l₅ l₆ l₇ l₈ = (tyUnit, l₀) ∷ (slice, l₁) ∷ (tyInt w64, l₂) ∷ (T′.mir, l₃) ∷ (tyInt w64, l₄) ∷ (tyInt w64, l₅) ∷ (tyBool, l₆) ∷ (tyInt w64, l₇) ∷ (tyPtr, l₈) ∷ []
 
@@ -99,7 +99,7 @@ module _ {M : Type 1} (𝓤 : URA M) (H : Heap 𝓤) (A : Atoms 𝓤) (W : Given
     zs = set ys i g
 
     abbrev Post : Val → SProp 𝓤
-    Post = walkOf 𝓤 H A f.ended stayed (Says 𝓤 at) .post (((κ, tt), (q, tt), tt, a, vals), tt)
+    Post = walkOf 𝓤 H A f.ended stayed (Says 𝓤 put) .post (((κ, tt), (q, tt), tt, a, vals), tt)
 
     -- once the arguments are in their locals: j is what local 4 is
     abbrev cells : Item 𝓤 → (l₀ l₁ l₂ l₃ l₄ l₅ l₆ l₇ l₈ : ℕ) → List (Item 𝓤)
@@ -115,7 +115,7 @@ module _ {M : Type 1} (𝓤 : URA M) (H : Heap 𝓤) (A : Atoms 𝓤) (W : Given
       exits : (us : List Segment) → us ≡ zs → length us ≡ length ys → ent 𝓤 (⋆ 𝓤 H A (‵ (MutSlice (named 0) κ R .own (slices.at R b o γ us) (v ∷ [])) ∷ ‵ (flft κ q) ∷ [])) (Post vunit)
       exits us e l =
           qed W (‵ (MutSlice (named 0) κ R .own (slices.at R b o γ us) (v ∷ [])) ∷ ‵ (flft κ q) ∷ []) ∵
-          suffices ! _ (ends-at 𝓤 H A f.ended stayed (Says 𝓤 at) W (((κ, tt), (q, tt), tt, a, vals), tt) vunit tt (us, (tt, (tt, tt))) (l, (tt, (tt, tt)))) $ says ! e $
+          suffices ! _ (ends-at 𝓤 H A f.ended stayed (Says 𝓤 put) W (((κ, tt), (q, tt), tt, a, vals), tt) vunit tt (us, (tt, (tt, tt))) (l, (tt, (tt, tt)))) $ says ! (e ∙ is-put ys (room .0) n g) $
           nothing ! $ move ! (2 ∷ 0 ∷ []) $ join ! $ frame ! $ nothing ! $ nothing ! $ fjoin ! $ nothing ! $ fjoin ! $ move ! (1 ∷ 0 ∷ []) $ fjoin ! $
           feqI ! (List Val) (vunit ∷ []) (vunit ∷ []) refl $ move ! (1 ∷ 0 ∷ []) $ done !
 
@@ -152,8 +152,8 @@ module _ {M : Type 1} (𝓤 : URA M) (H : Heap 𝓤) (A : Atoms 𝓤) (W : Given
           move ! (20 ∷ 21 ∷ []) $ free1 ! $ move ! (18 ∷ 19 ∷ []) $ free1 ! $ move ! (16 ∷ 17 ∷ []) $ free1 ! $ move ! (14 ∷ 15 ∷ []) $ free1 ! $ move ! (12 ∷ 13 ∷ []) $ free1 ! $ move ! (10 ∷ 11 ∷ []) $ free1 ! $ move ! (8 ∷ 9 ∷ []) $ free1 ! $ move ! (6 ∷ 7 ∷ []) $ free1 ! $ move ! (4 ∷ 5 ∷ []) $ free1 ! $ free0 ! $
           keep ! (0 ∷ 1 ∷ []) $ by ! (exits ys same refl)))))))))))
 
-  pub walks : ((κ : Lft) (q : Share) (b o : ℕ) (γ : GName) (ys : List Segment) (n : ℕ) (g : Segment) → n < 2 ^ 64 → Placed κ q b o γ ys n g) → Walks 𝓤 H A f.ended stayed (WpFn 𝓤 H C Λ (function s)) (Says 𝓤 at)
-  walks placed = walked 𝓤 H A f.ended stayed (Says 𝓤 at) (WpFn 𝓤 H C Λ (function s))
+  pub walks : ((κ : Lft) (q : Share) (b o : ℕ) (γ : GName) (ys : List Segment) (n : ℕ) (g : Segment) → n < 2 ^ 64 → Placed κ q b o γ ys n g) → Walks 𝓤 H A f.ended stayed (WpFn 𝓤 H C Λ (function s)) (Says 𝓤 put)
+  walks placed = walked 𝓤 H A f.ended stayed (Says 𝓤 put) (WpFn 𝓤 H C Λ (function s))
       (λ κs. (slice-vals, (uint-vals w64, (LL.vals T.the-type T′.the-laws, tt)))) (λ κs. (mut-slice-tells (named 0) (κs .0) R, (uint-tells w64, (LL.tells T.the-type T′.the-laws, tt))))
       (λ κs qs bounds x _ are. via 𝓤 _ (fst∗ 𝓤 _ (emp 𝓤))
       (walk (κs .0) (qs .0) (x .0 .ptr .0) (x .0 .ptr .1) (x .0 .name) (x .0 .now) (x .1 .0) (x .1 .1 .0) (are .1 .0 .1) (are .1 .1 .0) (are .0 .0 .1) (placed (κs .0) (qs .0) (x .0 .ptr .0) (x .0 .ptr .1) (x .0 .name) (x .0 .now) (x .1 .0) (x .1 .1 .0) (are .1 .0 .1))))

@@ -1,11 +1,11 @@
 -- Segment records. 01, Segments: "Each record has start_seq, last_good_seq, end, first_us and last_us (zero until a message is
 -- accepted)." The end takes four fields: its code (0 open, 1 superseded, else the number of the reason), and of a reason the last good sequence,
 -- the offending one, and which reason of 38.
-use Prim.Native.Nat.{ℕ, _-_}
+use Prim.Native.Nat.{ℕ, zero, suc, _-_}
 use mathlib.Core.Bool.{Bool, _&&_, cond}
 use mathlib.Core.List.{List}
 use lib.Dec.{eqb}
-use lib.ListN.{getD}
+use lib.ListN.{getD, set}
 use Rattle.reconstructor_segments.specs.declared.Segment.{Segment}
 use Rattle.reconstructor_segments.specs.declared.SegmentName.{SegmentName}
 use Rattle.reconstructor_answers.specs.declared.Invalidation.{Invalidation}
@@ -30,6 +30,21 @@ noSegment =
 -- record i
 abbrev pub segmentAt : List Segment → ℕ → Segment
 segmentAt sg i = getD sg i noSegment
+
+-- the last of the first n records; where n is 0 there is none
+abbrev pub lastSegment : List Segment → ℕ → Segment
+lastSegment sg zero = noSegment
+lastSegment sg (suc n) = segmentAt sg n
+
+-- that record rewritten; where n is 0 nothing is written
+abbrev pub relast : List Segment → ℕ → Segment → List Segment
+relast sg zero g = sg
+relast sg (suc n) g = set sg n g
+
+-- where it stands; where there is none, past any list's end
+abbrev pub lastPlace : ℕ → ℕ
+lastPlace zero = 18446744073709551615
+lastPlace (suc n) = n
 
 -- ---- what happens to a record
 

@@ -1,9 +1,8 @@
 // Segment records in a lent list, and segment names.
 use reconstructor_answers::Invalidation;
 ghost use mathlib.Core.Path.{_≡_};
-ghost use Prim.Native.Nat.{_-_};
 ghost use lib.ListN.{set};
-ghost use Rattle.reconstructor_segments.specs.Segments.{segmentAt, noSegment, started, superseded, extended, ended, elapsed, acceptedMessages, sameSegment};
+ghost use Rattle.reconstructor_segments.specs.Segments.{noSegment, lastPlace, lastSegment, relast, started, superseded, extended, ended, elapsed, acceptedMessages, sameSegment};
 
 // A run of messages applied on one snapshot.
 pub struct Segment {
@@ -22,19 +21,19 @@ pub struct Segment {
     pub last_us: u64,
 }
 
-// The place of the last of `count` records; 0 where there is none.
-pub fn last_place(count: usize) -> usize
-    ensures { λ r. ⌜ r ≡ count - 1 ⌝ }
+// The place of the last of `count` records; past any list's end where there is none.
+fn last_place(count: usize) -> usize
+    ensures { λ r. ⌜ r ≡ lastPlace count ⌝ }
 {
     if count == 0 {
-        return 0;
+        return 18446744073709551615;
     }
     count - 1
 }
 
 // The last of a list's first `count` records; zeros where the list has no such record.
 pub fn last_segment(segments: &[Segment], count: usize) -> Segment
-    ensures { λ r. ⌜ r ≡ segmentAt (now (segments .entry)) (count - 1) ⌝ }
+    ensures { λ r. ⌜ r ≡ lastSegment (now (segments .entry)) count ⌝ }
 {
     let at = last_place(count);
     if at < segments.len() {
@@ -45,11 +44,11 @@ pub fn last_segment(segments: &[Segment], count: usize) -> Segment
 
 // Writes the last of a list's first `count` records; nothing where the list has no such record.
 pub fn rewrite_last(segments: &mut [Segment], count: usize, segment: Segment)
-    ensures { λ _. ⌜ now (segments .exit) ≡ set (now (segments .entry)) (count - 1) segment ⌝ }
+    ensures { λ _. ⌜ now (segments .exit) ≡ relast (now (segments .entry)) count segment ⌝ }
 {
-    let at = last_place(count);
-    if at < segments.len() {
-        segments[at] = segment;
+    let last = last_place(count);
+    if last < segments.len() {
+        segments[last] = segment;
     }
 }
 

@@ -14,7 +14,7 @@ use Rattle.reconstructor_state.specs.declared.BookReconstructor.{BookRec
 use Rattle.reconstructor_counts.specs.Counts.{noCounts}
 use Rattle.reconstructor_segments.specs.declared.Segment.{Segment}
 use Rattle.reconstructor_segments.specs.declared.SegmentName.{SegmentName}
-use Rattle.reconstructor_segments.specs.Segments.{segmentAt}
+use Rattle.reconstructor_segments.specs.Segments.{lastSegment}
 
 -- 01, Forms that change: "Limits and defaults sit with the rules' type (4,096 orders and levels ..)"
 abbrev pub limitedRules : ℕ → ℕ → VenueRules
@@ -62,7 +62,7 @@ viewWith b ws g =
     record { status = b .status; startSeq = g .«start_seq»; segments = b .segments; line = lineOf (rowsOf ws (b .rows)) }
 
 abbrev pub viewOf : BookReconstructor → List ℕ → List Segment → View
-viewOf b ws sg = viewWith b ws (segmentAt sg (b .segments - 1))
+viewOf b ws sg = viewWith b ws (lastSegment sg (b .segments))
 
 -- the lengths of what a call is lent: words of rows, and segment records
 pub record Lengths : Type 0 where

@@ -1,7 +1,7 @@
 -- `last_segment` meets its contract: a walk of its MIR, by hand. Where the place is in the list, the borrow is looked into, the element is taken out of the row, read whole and put back, and the borrow is shut. Nothing here depends on the struct's fields.
 -- Assumes nothing.
 use mathlib.Core.Path.{_≡_, refl, sym, _∙_}
-use Prim.Native.Nat.{ℕ, _<_, _^_, _*_, _-_}
+use Prim.Native.Nat.{ℕ, _<_, _^_, _*_}
 use native.Mathlib.Omega.{arith}
 use mathlib.Core.List.{[], _∷_, List}
 use lib.Dec.{ltb→lt, nltb→le}
@@ -38,9 +38,10 @@ use denote.Triple.Spec.{tripleOf}
 use denote.Triple.Table.{cited}
 use denote.Triple.Walked.{says, Stays, stay-dropped, walkOf, goes-dropped, ends-at, walked}
 use denote.Exit.{yes}
-use Rattle.reconstructor_segments.specs.Segments.{noSegment}
+use Rattle.reconstructor_segments.specs.Segments.{noSegment, lastPlace}
 use Rattle.reconstructor_segments.specs.declared.Segment.{Segment}
 use Rattle.reconstructor_segments.proofs.Data.{number, calls-one}
+use Rattle.reconstructor_segments.proofs.Last.{last-placed}
 use Rattle.reconstructor_segments.proofs.Segment as T
 use Rattle.reconstructor_segments.proofs.Segment.Laws as T′
 use Rattle.reconstructor_segments.proofs.Walk.{Knows, calls-plain, if-then, framed, met}
@@ -80,7 +81,7 @@ module _ {M : Type 1} (𝓤 : URA M) (H : Heap 𝓤) (A : Atoms 𝓤) (W : Given
 
     -- the place, and the element there
     abbrev i : ℕ
-    i = n - 1
+    i = lastPlace n
 
     abbrev elem : Segment
     elem = getD ys i noSegment
@@ -90,7 +91,7 @@ module _ {M : Type 1} (𝓤 : URA M) (H : Heap 𝓤) (A : Atoms 𝓤) (W : Given
 
     exits : (r : Segment) → r ≡ elem → Is R r (mach r ∷ []) → ent 𝓤 (sep 𝓤 (A .lft κ q) (emp 𝓤)) (Post (mach r))
     exits r e is =
-        qed W ((‵ (flft κ q) ⊛ ‵ ftrue) ∷ []) ∵ suffices ! _ (ends-at 𝓤 H A f.ended stayed (f.clauses 𝓤 H A at-mem run) W (((κ, tt), (q, tt), tt, a, vals), tt) (mach r) r (tt, (tt, tt)) (tt, (tt, tt))) $ says ! e $
+        qed W ((‵ (flft κ q) ⊛ ‵ ftrue) ∷ []) ∵ suffices ! _ (ends-at 𝓤 H A f.ended stayed (f.clauses 𝓤 H A at-mem run) W (((κ, tt), (q, tt), tt, a, vals), tt) (mach r) r (tt, (tt, tt)) (tt, (tt, tt))) $ says ! (e ∙ last-placed ys (room .0) n) $
         frame ! $ nothing ! $ nothing ! $ fjoin ! $ nothing ! $ fjoin ! $ frame ! $ owned ! R (Is R) (LL.makes T.the-type T′.the-plain 𝓤 H A) r _ is $ done !
 
     -- the offset of the element fits: the elements take fewer than 2 ^ 63 bytes
@@ -104,7 +105,7 @@ module _ {M : Type 1} (𝓤 : URA M) (H : Heap 𝓤) (A : Atoms 𝓤) (W : Given
           alloc1 ! (λ l₀. alloc1 ! (λ l₁. alloc1 ! (λ l₂. alloc1 ! (λ l₃. alloc1 ! (λ l₄. alloc1 ! (λ l₅. alloc1 ! (λ l₆. alloc1 ! (λ l₇. alloc1 ! (λ l₈. alloc0 ! $ params1 ! $
           pass1 ! (init ! 14 refl (tt, (tt, (record { fits = room .0 }, tt)))) $ pass1 ! (init ! 12 refl (tt, record { fits = n-fits })) $ pass0 ! $
           -- [_8; …; _0; …; the token; what the parameters own]
-          calls-one (number 𝓤 H A W) (number 𝓤 H A W) ! fm (λ m r. r ≡ m - 1) known n (refl, n-fits) (λ _. load ! (from ! (stop !)) (look ! 13 refl)) (λ r e is.
+          calls-one (number 𝓤 H A W) (number 𝓤 H A W) ! fm (λ m r. r ≡ lastPlace m) known n (refl, n-fits) (λ _. load ! (from ! (stop !)) (look ! 13 refl)) (λ r e is.
           land ! (from ! (stop !)) (init ! 10 refl (tt, record { fits = is .1 })) $ rewrite ! 10 (λ (k : ℕ). ‵ (fat fullShare (tyInt w64) l₃ 0 (vint w64 k))) e refl $
           assigns ! (of-opd ! (load ! (from ! (fld ! refl (stop !))) (look-in ! 14 (sub ! 1 refl (whole !))))) (from ! (stop !)) (init ! 8 refl (tt, record { fits = room .0 })) $
           assigns ! (bin ! (load ! (from ! (stop !)) (look ! 10 refl)) (load ! (from ! (stop !)) (look ! 8 refl)) tt) (from ! (stop !)) (init ! 6 refl (tt, tt)) $

@@ -1,7 +1,7 @@
 -- `rewrite_last` meets its contract: `Put`'s walk, at the place that `last_place` answers.
 -- Assumes nothing.
 use mathlib.Core.Path.{_≡_, refl}
-use Prim.Native.Nat.{ℕ, _-_}
+use Prim.Native.Nat.{ℕ}
 use mathlib.Core.List.{[], _∷_}
 use mir.Syntax.{w64, tyInt, place, copy, call}
 use mir.Val.{vint}
@@ -12,7 +12,9 @@ use types.Kit.{step, ‵, _$_, !, rewrite}
 use types.Run.{look, init, stop, from, load, land}
 use denote.Triple.Table.{cited}
 use denote.Triple.Spec.{tripleOf}
+use Rattle.reconstructor_segments.specs.Segments.{relast, lastPlace}
 use Rattle.reconstructor_segments.proofs.Data.{number, calls-one}
+use Rattle.reconstructor_segments.proofs.Last.{relast-placed}
 use Rattle.reconstructor_segments.proofs.Put as put
 use Rattle.reconstructor_segments.proofs.Walk.{framed, met}
 use Rattle.reconstructor_segments.proofs.last_place as last-place
@@ -28,9 +30,9 @@ unfolding code.routine
 rewrite-last-spec 𝓤 H 𝓜 𝓖 𝓡 =
     let W = givenOf 𝓤 H 𝓜 𝓖 in
     met 𝓤 H 𝓜 𝓖 𝓡 code.env name code.function (code.unfolded 𝓤 H 𝓜 𝓡) f.ended put.stayed (f.clauses 𝓤 H (𝓖 .A) (𝓜 .mem) (𝓡 .run)) (put.goes 𝓤 H (𝓖 .A) W)
-    (put.walks 𝓤 H (𝓖 .A) W (λ n. n - 1) (tables 𝓤 H 𝓜 𝓡 code.env .C) (tables 𝓤 H 𝓜 𝓡 code.env .Λ) (call last-place-def.name (copy (place 2 []) ∷ []) (place 4 []))
+    (put.walks 𝓤 H (𝓖 .A) W lastPlace relast relast-placed (tables 𝓤 H 𝓜 𝓡 code.env .C) (tables 𝓤 H 𝓜 𝓡 code.env .Λ) (call last-place-def.name (copy (place 2 []) ∷ []) (place 4 []))
     (λ κ q b o γ ys n g fits l₀ l₁ l₂ l₃ l₄ l₅ l₆ l₇ l₈. step (λ s.
-    calls-one (number 𝓤 H (𝓖 .A) W) (number 𝓤 H (𝓖 .A) W) ! (framed 𝓤 H 𝓜 𝓖 𝓡 code.env) (λ m r. r ≡ m - 1)
+    calls-one (number 𝓤 H (𝓖 .A) W) (number 𝓤 H (𝓖 .A) W) ! (framed 𝓤 H 𝓜 𝓖 𝓡 code.env) (λ m r. r ≡ lastPlace m)
     (cited 𝓤 H (tripleOf 𝓤 H (𝓖 .A) last-place.signature (last-place.spec 𝓤 H (𝓖 .A) (𝓜 .mem) (𝓡 .run))) 𝓜 𝓡 code.env last-place-def.name last-place-def.routine code.calls-reconstructor-segments·last-place (last-place-thm.met 𝓤 H 𝓜 𝓖 𝓡))
     n (refl, fits) (λ i. load ! (from ! (stop !)) (look ! 13 refl)) (λ r e is.
     land ! (from ! (stop !)) (init ! 8 refl (tt, record { fits = is .1 })) $ rewrite ! 8 (λ (k : ℕ). ‵ (fat fullShare (tyInt w64) l₄ 0 (vint w64 k))) e refl $ s))))

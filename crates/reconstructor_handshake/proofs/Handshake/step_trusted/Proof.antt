@@ -1,9 +1,10 @@
 use mathlib.Core.Path.{_∙_, sym, ap}
-use mathlib.Core.Bool.{not}
+use mathlib.Core.Bool.{not, _||_}
 use borrow.Author.Needs.{needs}
 use Rattle.reconstructor_state.specs.Checks.{check}
 use Rattle.reconstructor_state.proofs.Checks.{told-true, told-false}
-use Rattle.reconstructor_handshake.specs.ByValue.{decidedTo, settledTo, stepTo}
+use Rattle.reconstructor_handshake.specs.ByValue.{settledTo, stepTo}
+use Rattle.reconstructor_handshake.proofs.After.{decided-parts}
 use Rattle.reconstructor_handshake.proofs.Handshake.step_trusted.Statement.{statement}
 use Rattle.reconstructor_handshake.proofs.Handshake.step_trusted.Tie as tie
 
@@ -26,9 +27,10 @@ returns-3 c =
 returns-4 : tie.Need-returns-4
 unfolding stepTo settledTo check
 returns-4 c =
-    let r = ap not (sym (c .before .before .before .before .before .before .before .before .before .before .before .event-in-range .ensures)) ∙ c .before .before .before .before .before .before .before .before .before .before .if2 .left in
-    rw (told-false (c .before .before .before .before .before .before .before .before .before .before .before .before .before .is-other .ensures) (c .before .before .before .before .before .before .before .before .before .before .before .before .if1 .left), r, sym (c .before .before .before .before .before .before .before .before .drops .ensures) ∙ c .before .before .before .before .before .before .before .if3 .left, c .after .ensures)
-    (ap (decidedTo (c .before .before .before .before .before .before .before .before .before .before .before .before .before .before .before .args .self)) (c .before .before .before .before .before .apply-trusted .ensures))
+    let r = ap not (sym (c .before .before .before .before .before .before .before .before .before .before .before .before .before .event-in-range .ensures)) ∙ c .before .before .before .before .before .before .before .before .before .before .before .before .if2 .left in
+    let h = c .before .before .before .before .before .before .before .before .before .before .before .before .before .before .before .before .before .args .self in
+    rw (told-false (c .before .before .before .before .before .before .before .before .before .before .before .before .before .before .before .is-other .ensures) (c .before .before .before .before .before .before .before .before .before .before .before .before .before .before .if1 .left), r, sym (c .before .before .before .before .before .before .before .before .before .before .drops .ensures) ∙ c .before .before .before .before .before .before .before .before .before .if3 .left)
+    (decided-parts h (c .before .before .before .before .before .before .before .apply-trusted .result) _ _ _ _ (ap (λ x. h .ended || x) (c .before .before .ends .ensures)) (c .applied-by .ensures) (c .before .before .before .before .before .before .before .apply-trusted .ensures))
 
 pub step-trusted-spec : {M : Type 1} → statement M
 step-trusted-spec =
@@ -45,6 +47,7 @@ step-trusted-spec =
     (λ c κs. search needs)
     (λ c κs. search needs)
     returns-3
+    (λ c κs. search needs)
     (λ c κs. search needs)
     (λ c κs. search needs)
     (λ c. search needs)
