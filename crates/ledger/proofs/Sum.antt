@@ -10,7 +10,7 @@ use Rattle.message.specs.Amounts.{natOf}
 use Rattle.book.specs.Line.{Entry, volume, queue}
 use Rattle.book_levels.specs.Levels.{prices}
 use Rattle.reconstructor_segments.specs.declared.Segment.{Segment}
-use Rattle.reconstructor_segments.specs.Segments.{segmentAt}
+use Rattle.reconstructor_segments.specs.Segments.{lastSegment}
 use Rattle.reconstructor_state.specs.State.{View, lastOf}
 use Rattle.ledger.specs.Ledger.{Config, Call, bootstrap, apply, step, read, Ledger, blank, fresh, feed, feedAll}
 use Rattle.ledger.specs.World.{World, run, Lendable, freshWorld, lineAt}
@@ -75,7 +75,7 @@ module _ (c : Config) (ws : List ℕ) (sg : List Segment) where
         last = ap (λ (x : View). lastOf (x .status)) (f .stands .view);
         status = ap (λ (x : View). x .status) (f .stands .view);
         snapshots = e;
-        start = λ z. ap (λ (k : ℕ). segmentAt (after ks .segments) (k - 1) .«start_seq») (sym e) ∙ f .stands .start (omega (arith, e, z));
+        start = λ z. ap (λ (k : ℕ). lastSegment (after ks .segments) k .«start_seq») (sym e) ∙ f .stands .start (omega (arith, e, z));
       }
 
   read-facts : (ks : List Call) → Lendable (length ws) (length sg) ks → Read (c .rules) (after ks) (feedAll c fresh ks)

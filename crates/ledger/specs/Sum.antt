@@ -1,5 +1,5 @@
 -- Demand 3, the sum rule: one claim about any list of calls on one book from a fresh one. Words in quotation marks are the demand's, or 01's where it is named.
-use Prim.Native.Nat.{ℕ, _+_, _*_, _-_, _≤_, _<_}
+use Prim.Native.Nat.{ℕ, _+_, _*_, _≤_, _<_}
 use mathlib.Core.Path.{_≡_}
 use mathlib.Core.List.{List, [], _∷_, _++_, map}
 use mathlib.Core.Bool.{Bool, false, _||_, cond}
@@ -19,7 +19,7 @@ use Rattle.book_levels.specs.Levels.{prices}
 use Rattle.reconstructor_answers.specs.declared.StateError.the-variants.{MalformedBook}
 use Rattle.reconstructor_segments.specs.declared.Segment.{Segment}
 use Rattle.reconstructor_state.specs.declared.BookReconstructor.{BookReconstructor}
-use Rattle.reconstructor_segments.specs.Segments.{segmentAt}
+use Rattle.reconstructor_segments.specs.Segments.{lastSegment}
 use Rattle.reconstructor_state.specs.declared.VenueRules.{VenueRules}
 use Rattle.reconstructor_state.specs.State.{Lengths, lastOf}
 use Rattle.reconstructor_checks.specs.Own.{overCeiling, bookRefusal}
@@ -68,7 +68,7 @@ pub record Stand (w : World) (l : Ledger) : Type 0 where
   pub status : w .book .status ≡ l .view .status
   pub snapshots : w .book .segments ≡ l .view .segments
   -- the record of the segment that the book is in, once there is one
-  pub start : 0 < l .view .segments → segmentAt (w .segments) (l .view .segments - 1) .«start_seq» ≡ l .view .startSeq
+  pub start : 0 < l .view .segments → lastSegment (w .segments) (l .view .segments) .«start_seq» ≡ l .view .startSeq
 
 -- what rests at each side and price is the same
 pub record Alike (w x : World) : Type 0 where
