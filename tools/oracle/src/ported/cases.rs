@@ -16,6 +16,8 @@ use crate::port;
 pub struct Cases {
     met: BTreeMap<(&'static str, &'static str), u64>,
     orders: BTreeMap<(&'static str, u64, u64), u64>,
+    /// Calls made with something amiss.
+    trials: u64,
     /// The reasons of the invalid books that were called on.
     reasons: BTreeMap<(u64, u64), u64>,
 }
@@ -33,6 +35,7 @@ impl Cases {
 
     /// Notes the numbers that held for a call, which said the first; 0 stands for none beside it.
     pub fn order(&mut self, call: &'static str, numbers: &[u64]) {
+        self.trials += 1;
         let (said, beside) = numbers.split_first().expect("something is amiss");
         let alone: &[u64] = if beside.is_empty() { &[0] } else { &[] };
         for &other in beside.iter().chain(alone) {
@@ -56,6 +59,7 @@ impl Cases {
     pub fn merge(&mut self, other: &Cases) {
         merge(&mut self.met, &other.met);
         merge(&mut self.orders, &other.orders);
+        self.trials += other.trials;
         merge(&mut self.reasons, &other.reasons);
     }
 
