@@ -84,9 +84,13 @@ def header_numbers():
     return {int(value) for value in re.findall(r"= (\d+)", inside)}
 
 
+# Success, the answers of a success that is told apart (256, 512), and an input of fixed size lent too short.
+BESIDE_THE_TABLE = {0, 256, 512, 768}
+
+
 def table_numbers():
-    """The numbers of 01's table, success, and the three answers besides."""
-    return {int(number) for number in re.findall(r"^\|(\d+)\*?\|", read(SCOPE), re.M)} | {0, 256, 512}
+    """The numbers of 01's table, and those besides."""
+    return {int(number) for number in re.findall(r"^\|(\d+)\*?\|", read(SCOPE), re.M)} | BESIDE_THE_TABLE
 
 
 def defined(prefix, file, function, index):

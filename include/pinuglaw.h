@@ -1,15 +1,26 @@
 /*
  * Pinuglaw for C: the functions that crate `host` exports (`rt staticlib host` writes target/staticlib/libhost.a).
  *
- * A book is memory that the caller owns: a state of 27 words, rows of 8 words an order, segment records of 8 words. A call keeps none of it, allocates nothing
- * and always returns. Every slice is a pointer and a length in elements. What one call is lent must not overlap. A slice of length 0 may have any pointer that
- * is not null.
+ * A book is memory that the caller owns: a state of PINUGLAW_STATE_WORDS, which pinuglaw_new writes, rows of PINUGLAW_ROW_WORDS an order, segment records of
+ * PINUGLAW_SEGMENT_WORDS. A call keeps none of it, allocates nothing and always returns. Every slice is a pointer and a length in elements. What one call is
+ * lent must not overlap. A slice of length 0 may have any pointer that is not null.
  *
- * "01" is docs/01-scope.md; what each call answers and writes is proved in crates/host. A call answers 0 or a number of 01's table (enum pinuglaw_number).
- * Unless said, a refusal leaves every lent word. 7 also comes, with nothing touched, where a part of fixed size is lent too short.
+ * "01" is docs/01-scope.md; what each call answers and writes is proved in crates/host. A call answers 0 or a number (enum pinuglaw_number), the first of these
+ * that holds:
+ *
+ *   768      An input of fixed size is lent too short: a state, a message, a handshake, an estimate.
+ *   4        Words that no value has: a kind, side, reason, presence, own or ended word that the layouts below do not give. Words that no field names, and the
+ *            value of an optional amount that is not there, may be anything.
+ *   1, 2, 3  Limits, memory, book. A state that no book has is number 3's: a size_decrease above 1, a status above 2, of an invalid book a reason that is not
+ *            20 to 22 or 30 to 44, of reason 38 a detail above 1. Calls that are lent no rows (pinuglaw_handshake, pinuglaw_invalidation, pinuglaw_segment)
+ *            say 3 for no other cause.
+ *   ...      What the call's own comment says.
+ *   7        An output is too small: always last, once the call is decided.
+ *
+ * Unless said, every answer but a success leaves every lent word.
  *
  * Amounts (prices, sizes) are whole units of 10^-8 in two's complement, from -10^15 to 10^15. An id and a product are 16 bytes as two words, high first, each
- * the big-endian number of eight bytes. A side is 0 for buy, else sell.
+ * the big-endian number of eight bytes.
  */
 #ifndef PINUGLAW_H
 #define PINUGLAW_H
@@ -22,16 +33,16 @@
 extern "C" {
 #endif
 
-/* 01's table, and three answers that are no refusals. */
+/* 01's table, three answers that are no refusals, and 768. */
 enum pinuglaw_number {
     PINUGLAW_OK = 0, /* of a message: applied, the book unchanged */
     PINUGLAW_LIMIT_ABOVE_CEILING = 1, /* an order or level limit above 4,096 */
     PINUGLAW_MEMORY_TOO_SHORT = 2, /* rows, scratch or the segment list */
     PINUGLAW_BROKEN_BOOK = 3, /* the words lent are no book */
-    PINUGLAW_NOT_A_PIECE = 4,
+    PINUGLAW_NOT_A_PIECE = 4, /* bytes that are no piece, or words that no value has */
     PINUGLAW_AMOUNT_OUT_OF_RANGE = 5,
     PINUGLAW_SEGMENT_LIST_FULL = 6,
-    PINUGLAW_OUTPUT_TOO_SMALL = 7,
+    PINUGLAW_OUTPUT_TOO_SMALL = 7, /* always said last */
     PINUGLAW_AHEAD_LIST_UNUSABLE = 8, /* above 4,096 orders, or fewer words than its orders need */
     PINUGLAW_HANDSHAKE_OVER = 9, /* ended, or of another segment */
     PINUGLAW_WRONG_PRODUCT = 10,
@@ -67,14 +78,27 @@ enum pinuglaw_number {
     PINUGLAW_BOOK_CHANGED = 256, /* of a message: applied, the book changed */
     PINUGLAW_NOT_STALE = 256, /* of pinuglaw_stale_l2 and pinuglaw_invalidation: the book is not invalid, nothing is written */
     PINUGLAW_NO_RECORD = 256, /* of pinuglaw_segment: no record there, nothing is written */
-    PINUGLAW_DROPPED = 512 /* of pinuglaw_step: at or below the snapshot's sequence, counted as handshake_dropped */
+    PINUGLAW_DROPPED = 512, /* of pinuglaw_step: at or below the snapshot's sequence, counted as handshake_dropped */
+    PINUGLAW_SHORT_INPUT = 768 /* a state, message, handshake or estimate of fewer words than it has */
 };
 
-/* The state. For a new book: product, rules and number, all other words 0. */
+/* Sides. */
+enum pinuglaw_side {
+    PINUGLAW_BUY = 0,
+    PINUGLAW_SELL = 1
+};
+
+/* What a size decrease does to an order's priority. */
+enum pinuglaw_size_decrease {
+    PINUGLAW_DECREASE_KEEPS_PRIORITY = 0,
+    PINUGLAW_DECREASE_PRIORITY_UNKNOWN = 1 /* an estimate that depends on it is 51 */
+};
+
+/* The state, as pinuglaw_new writes it and every call leaves it. */
 enum pinuglaw_state {
     PINUGLAW_STATE_PRODUCT_HIGH = 0,
     PINUGLAW_STATE_PRODUCT_LOW = 1,
-    PINUGLAW_STATE_SIZE_DECREASE = 2, /* 0 keeps priority, else priority unknown */
+    PINUGLAW_STATE_SIZE_DECREASE = 2, /* enum pinuglaw_size_decrease */
     PINUGLAW_STATE_MAX_ORDERS = 3, /* at most 4,096 */
     PINUGLAW_STATE_MAX_LEVELS = 4, /* at most 4,096 */
     PINUGLAW_STATE_NUMBER = 5, /* the reconstructor's number; another one for each book, or estimates of one book pass on another */
@@ -105,7 +129,7 @@ enum pinuglaw_state {
 enum pinuglaw_status {
     PINUGLAW_STATUS_EMPTY = 0, /* no snapshot yet */
     PINUGLAW_STATUS_VALID = 1,
-    PINUGLAW_STATUS_INVALID = 2 /* and any other number */
+    PINUGLAW_STATUS_INVALID = 2
 };
 
 /* The ceiling of both limits. */
@@ -151,7 +175,7 @@ enum pinuglaw_invalidated {
     PINUGLAW_INVALIDATION_WORDS = 6
 };
 
-/* A message. Fields from word 5 on depend on the kind; an optional amount is two words, whether it is there (0, else 1) and its value. */
+/* A message. Fields from word 5 on depend on the kind; an optional amount is two words, whether it is there (0 or 1) and its value. */
 enum pinuglaw_message {
     PINUGLAW_MESSAGE_KIND = 0, /* enum pinuglaw_kind */
     PINUGLAW_MESSAGE_PRODUCT_HIGH = 1,
@@ -160,25 +184,25 @@ enum pinuglaw_message {
     PINUGLAW_MESSAGE_TIME_US = 4,
     PINUGLAW_MESSAGE_ID_HIGH = 5, /* received, open, done, change; of a match the maker */
     PINUGLAW_MESSAGE_ID_LOW = 6,
-    PINUGLAW_MESSAGE_SIDE = 7, /* not of a match */
+    PINUGLAW_MESSAGE_SIDE = 7, /* enum pinuglaw_side; not of a match */
     PINUGLAW_OPEN_PRICE = 8,
     PINUGLAW_OPEN_REMAINING = 9,
     PINUGLAW_DONE_PRICE = 8, /* optional */
-    PINUGLAW_DONE_REASON = 10, /* 0 filled, else canceled */
+    PINUGLAW_DONE_REASON = 10, /* 0 filled, 1 canceled */
     PINUGLAW_DONE_REMAINING = 11, /* optional */
     PINUGLAW_MATCH_TAKER_HIGH = 7,
     PINUGLAW_MATCH_TAKER_LOW = 8,
     PINUGLAW_MATCH_SIDE = 9, /* the maker's */
     PINUGLAW_MATCH_PRICE = 10,
     PINUGLAW_MATCH_SIZE = 11,
-    PINUGLAW_CHANGE_REASON = 8, /* 0 stp, else modify_order */
+    PINUGLAW_CHANGE_REASON = 8, /* 0 stp, 1 modify_order */
     PINUGLAW_CHANGE_PRICE = 9, /* optional, as the next five */
     PINUGLAW_CHANGE_OLD_SIZE = 11,
     PINUGLAW_CHANGE_NEW_SIZE = 13,
     PINUGLAW_CHANGE_OLD_PRICE = 15,
     PINUGLAW_CHANGE_NEW_PRICE = 17,
     PINUGLAW_CHANGE_NEW_FUNDS = 19,
-    PINUGLAW_UNSUPPORTED_NUMBER = 5, /* its low 32 bits */
+    PINUGLAW_UNSUPPORTED_NUMBER = 5, /* below 2^32 */
     PINUGLAW_MESSAGE_WORDS = 21
 };
 
@@ -216,10 +240,14 @@ enum pinuglaw_order {
 enum pinuglaw_handshake_words {
     PINUGLAW_HANDSHAKE_NUMBER = 0, /* its segment: the reconstructor's number and the place in the list */
     PINUGLAW_HANDSHAKE_PLACE = 1,
-    PINUGLAW_HANDSHAKE_ENDED = 2, /* 0 not, else ended */
+    PINUGLAW_HANDSHAKE_ENDED = 2, /* 0 not, 1 ended */
     PINUGLAW_HANDSHAKE_APPLIED = 3, /* messages applied */
     PINUGLAW_HANDSHAKE_WORDS = 4
 };
+
+/* What pinuglaw_last_sequence writes, and the number of entries that a level read writes. */
+#define PINUGLAW_LAST_SEQUENCE_WORDS 1
+#define PINUGLAW_COUNT_WORDS 1
 
 /* What pinuglaw_best writes; a price that is not there is 0. */
 enum pinuglaw_best_words {
@@ -251,11 +279,11 @@ enum pinuglaw_profile {
 
 /* An estimate. */
 enum pinuglaw_estimate {
-    PINUGLAW_ESTIMATE_SIDE = 0,
+    PINUGLAW_ESTIMATE_SIDE = 0, /* enum pinuglaw_side */
     PINUGLAW_ESTIMATE_PRICE = 1,
     PINUGLAW_ESTIMATE_NUMBER = 2, /* its segment */
     PINUGLAW_ESTIMATE_PLACE = 3,
-    PINUGLAW_ESTIMATE_OWN = 4, /* 0 of a hypothetical order, else of an own one */
+    PINUGLAW_ESTIMATE_OWN = 4, /* 0 of a hypothetical order, 1 of an own one */
     PINUGLAW_ESTIMATE_ORDERS = 5, /* hypothetical: orders in the ahead-list */
     PINUGLAW_ESTIMATE_CREATED_AT = 6,
     PINUGLAW_ESTIMATE_ID_HIGH = 5, /* own */
@@ -292,8 +320,20 @@ uint64_t pinuglaw_read_message(const uint8_t *bytes, size_t bytes_len, uint64_t 
 /* Reads a snapshot piece's header into PINUGLAW_SNAPSHOT_WORDS. */
 uint64_t pinuglaw_read_snapshot(const uint8_t *bytes, size_t bytes_len, uint64_t *out, size_t out_len);
 
-/* Reads the order at a place of a snapshot piece, bids first, into PINUGLAW_ORDER_WORDS; an order of zeros where the bytes do not reach. */
+/*
+ * Reads the order at a place of a snapshot piece, bids first, into PINUGLAW_ORDER_WORDS; an order of zeros where the bytes do not reach. Tests nothing but the
+ * output (7).
+ */
 uint64_t pinuglaw_snapshot_order(const uint8_t *bytes, size_t bytes_len, size_t place, uint64_t *out, size_t out_len);
+
+/* ---- A new book. */
+
+/*
+ * Writes the state of a book without a snapshot, PINUGLAW_STATE_WORDS; words past them are left. 4 where size_decrease is none of enum pinuglaw_size_decrease,
+ * then 7. Limits are not tested here: the calls say 1.
+ */
+uint64_t pinuglaw_new(uint64_t *state, size_t state_len, uint64_t product_high, uint64_t product_low, uint64_t size_decrease, uint64_t max_orders,
+                      uint64_t max_levels, uint64_t number);
 
 /* ---- Rebuilding. */
 
@@ -301,57 +341,66 @@ uint64_t pinuglaw_snapshot_order(const uint8_t *bytes, size_t bytes_len, size_t 
 bool pinuglaw_rows_broken(const uint64_t *rows, size_t rows_len, size_t n, size_t max_levels);
 
 /*
- * Applies a message. PINUGLAW_BOOK_CHANGED, PINUGLAW_OK, or in this order 1, 2, 3, 5, 10, 15, 17, 16. A refusal leaves every word but the count that 10 and 17
- * raise; 16 sets the status and ends the segment's record.
+ * Applies a message. PINUGLAW_BOOK_CHANGED, PINUGLAW_OK, or in this order 768 (state, message), 4 (message), 1, 2, 3, 5, 10, 15, 17, 16. A refusal leaves every
+ * word but the count that 10 and 17 raise; 16 sets the status and ends the segment's record.
  */
 uint64_t pinuglaw_apply(uint64_t *state, size_t state_len, uint64_t *rows, size_t rows_len, uint64_t *segments, size_t segments_len, const uint64_t *message,
                         size_t message_len);
 
 /*
- * Applies the messages, PINUGLAW_MESSAGE_WORDS each, in turn: what as many calls of pinuglaw_apply answer and leave, the number of each in a word of `answers`.
- * Answers 0; 1, 2 or 3 where every message would be told so, and PINUGLAW_OUTPUT_TOO_SMALL where there are fewer answer words than messages: then nothing is
- * touched. Words past the last whole message are not read.
+ * Applies the messages, PINUGLAW_MESSAGE_WORDS each, in turn: what as many calls of pinuglaw_apply answer and leave, the number of each in a word of `answers`,
+ * 4 of words that no message has among them. Answers 0, or in this order 768 (state), 1, 2, 3, and 7 where there are fewer answer words than whole messages:
+ * then nothing is touched, whatever the messages are. Words past the last whole message are not read.
  */
 uint64_t pinuglaw_replay(uint64_t *state, size_t state_len, uint64_t *rows, size_t rows_len, uint64_t *segments, size_t segments_len, const uint64_t *messages,
                          size_t messages_len, uint64_t *answers, size_t answers_len);
 
 /*
- * Takes a snapshot piece: 0, or in this order 1, 2, 3, 4, 5, 6, 10, 14 of orders, then order by order 11, 12, 14 of levels, last 13. A refusal leaves every
- * word but the count that 10 to 14 raise.
+ * Takes a snapshot piece: 0, or in this order 768 (state), 1, 2, 3, 4 (the bytes are no snapshot), 5, 6, 10, 14 of orders, then order by order 11, 12, 14 of
+ * levels, last 13. A refusal leaves every word but the count that 10 to 14 raise.
  */
 uint64_t pinuglaw_bootstrap(uint64_t *state, size_t state_len, uint64_t *rows, size_t rows_len, uint64_t *segments, size_t segments_len, const uint8_t *bytes,
                             size_t bytes_len);
 
-/* Makes a handshake for the segment that the book is in, into PINUGLAW_HANDSHAKE_WORDS. */
+/*
+ * Makes a handshake for the segment that the book is in, into PINUGLAW_HANDSHAKE_WORDS: 0, or 768 (state), 3 (the state alone), 7. Without a snapshot there is
+ * no segment, and the handshake is written as ended: every step of it is 9.
+ */
 uint64_t pinuglaw_handshake(const uint64_t *state, size_t state_len, uint64_t *handshake, size_t handshake_len);
 
 /*
- * Steps a handshake by one message: 1, 2, 3, 9, 5; then PINUGLAW_DROPPED for the same product at or below the snapshot's sequence; else as pinuglaw_apply. 10
- * passes by; 16 and 17 end the handshake.
+ * Steps a handshake by one message: 768 (state, handshake, message), 4 (handshake, message), 1, 2, 3, 9, 5; then PINUGLAW_DROPPED for the same product at or
+ * below the snapshot's sequence; else as pinuglaw_apply. 10 passes by; 16 and 17 end the handshake.
  */
 uint64_t pinuglaw_step(uint64_t *state, size_t state_len, uint64_t *rows, size_t rows_len, uint64_t *segments, size_t segments_len, uint64_t *handshake,
                        size_t handshake_len, const uint64_t *message, size_t message_len);
 
-/* ---- Reads: 1, 2, 3, then 15 or 18, then 7. */
+/* ---- Reads: 768 (state), 4 (the side), 1, 2, 3, then 15 or 18, then 7. */
 
-/* The last sequence applied, into one word. */
+/* The last sequence applied, into PINUGLAW_LAST_SEQUENCE_WORDS. */
 uint64_t pinuglaw_last_sequence(const uint64_t *state, size_t state_len, const uint64_t *rows, size_t rows_len, uint64_t *out, size_t out_len);
 
 /* The best bid and ask, into PINUGLAW_BEST_WORDS. */
 uint64_t pinuglaw_best(const uint64_t *state, size_t state_len, const uint64_t *rows, size_t rows_len, uint64_t *out, size_t out_len);
 
-/* The audit of a valid book. */
+/* The audit of a valid book. Writes nothing, so never 7. */
 uint64_t pinuglaw_audit(const uint64_t *state, size_t state_len, const uint64_t *rows, size_t rows_len);
 
-/* The invalidation in force, into PINUGLAW_INVALIDATION_WORDS. PINUGLAW_NOT_STALE of a book that is not invalid. Asks for no rows. */
+/*
+ * The invalidation in force, into PINUGLAW_INVALIDATION_WORDS: 0, or 768, 3 (the state alone), PINUGLAW_NOT_STALE of a book that is not invalid, 7. Asks for no
+ * rows.
+ */
 uint64_t pinuglaw_invalidation(const uint64_t *state, size_t state_len, uint64_t *out, size_t out_len);
 
-/* The record of the segment at a place of the list, into PINUGLAW_RECORD_WORDS. PINUGLAW_NO_RECORD where the book or the list has none there. */
+/*
+ * The record of the segment at a place of the list, into PINUGLAW_RECORD_WORDS: 0, or 768, 3 (the state alone), PINUGLAW_NO_RECORD where the book or the list
+ * has none there, 7.
+ */
 uint64_t pinuglaw_segment(const uint64_t *state, size_t state_len, const uint64_t *segments, size_t segments_len, size_t place, uint64_t *out, size_t out_len);
 
 /*
- * The level reads. Scratch is at least max_orders words, of which success zeroes as many. Entries go into out, their number into one word of count. Buys run
- * from the highest price, sells from the lowest.
+ * The level reads. Scratch is at least max_orders words (2), of which success zeroes as many. Entries go into out, their number into PINUGLAW_COUNT_WORDS of
+ * count; 7 where either is too small, and then scratch too is left. Buys run from the highest price, sells from the lowest.
  */
 
 /* The orders at a side and price in order of arrival, PINUGLAW_QUEUE_WORDS each. */
@@ -366,13 +415,19 @@ uint64_t pinuglaw_priority_profile(const uint64_t *state, size_t state_len, cons
 uint64_t pinuglaw_l2(const uint64_t *state, size_t state_len, const uint64_t *rows, size_t rows_len, uint64_t *scratch, size_t scratch_len, uint64_t side,
                      uint64_t *out, size_t out_len, uint64_t *count, size_t count_len);
 
-/* The same of an invalid book: the volumes that stood before the message that made it invalid. PINUGLAW_NOT_STALE of any other. */
+/*
+ * The same of an invalid book: the volumes that stood before the message that made it invalid. Neither 15 nor 18: PINUGLAW_NOT_STALE of any other book, before
+ * 7.
+ */
 uint64_t pinuglaw_stale_l2(const uint64_t *state, size_t state_len, const uint64_t *rows, size_t rows_len, uint64_t *scratch, size_t scratch_len, uint64_t side,
                            uint64_t *out, size_t out_len, uint64_t *count, size_t count_len);
 
-/* ---- Queue estimates: 1, 2, 3, then 15 or 18, then as said, then 7. */
+/* ---- Queue estimates: 768, 4, 1, 2, 3, then 15 or 18, then as said, then 7. */
 
-/* An estimate for an order created now, behind all that rest at a side and price: PINUGLAW_AHEAD_WORDS an order ahead, and PINUGLAW_ESTIMATE_WORDS. */
+/*
+ * An estimate for an order created now, behind all that rest at a side and price: PINUGLAW_AHEAD_WORDS an order ahead, and PINUGLAW_ESTIMATE_WORDS. 7 where
+ * either is too small.
+ */
 uint64_t pinuglaw_queue_estimate(const uint64_t *state, size_t state_len, const uint64_t *rows, size_t rows_len, uint64_t side, uint64_t price, uint64_t *ahead,
                                  size_t ahead_len, uint64_t *estimate, size_t estimate_len);
 
@@ -380,7 +435,10 @@ uint64_t pinuglaw_queue_estimate(const uint64_t *state, size_t state_len, const 
 uint64_t pinuglaw_queue_estimate_own(const uint64_t *state, size_t state_len, const uint64_t *rows, size_t rows_len, uint64_t id_high, uint64_t id_low,
                                      uint64_t *estimate, size_t estimate_len);
 
-/* The volume now ahead of an estimate, into PINUGLAW_VOLUME_WORDS: 8, 50, 52, 51. The ahead-list is the one written with the estimate; an own order has none. */
+/*
+ * The volume now ahead of an estimate, into PINUGLAW_VOLUME_WORDS: 8, 50, 52, 51. 768 and 4 look at the estimate too. The ahead-list is the one written with
+ * the estimate; an own order has none.
+ */
 uint64_t pinuglaw_volume_ahead(const uint64_t *state, size_t state_len, const uint64_t *rows, size_t rows_len, const uint64_t *estimate, size_t estimate_len,
                                const uint64_t *ahead, size_t ahead_len, uint64_t *out, size_t out_len);
 

@@ -8,12 +8,15 @@
 #include <stdio.h>
 #include <string.h>
 
-enum { MAX_ORDERS = 3, SEGMENTS = 2, JUNK = 77 };
+enum { MAX_ORDERS = 3, SEGMENTS = 2, NUMBER = 41, JUNK = 77 };
 
 /* Ids of 01's examples; the high word differs from the low one, so that a swap shows. */
 enum { A = 0xA, B = 0xB, C = 0xC, D = 0xD, Z = 0xF, ID_HIGH = 8 };
 
-enum { BUY = 0, SELL = 1 };
+enum { BUY = PINUGLAW_BUY, SELL = PINUGLAW_SELL };
+
+/* A word that no side, reason, presence, rule, own or ended word has. */
+enum { NO_VALUE = 2 };
 
 static const uint8_t PRODUCT[16] = "BTC-USD";
 static unsigned checks, failures;
@@ -142,17 +145,24 @@ static uint64_t big_word(const uint8_t *bytes)
     return word;
 }
 
+static void fill(uint64_t *words, size_t length, uint64_t word)
+{
+    for (size_t i = 0; i < length; i++)
+        words[i] = word;
+}
+
+static uint64_t make_state(uint64_t *state, size_t length, uint64_t size_decrease)
+{
+    return pinuglaw_new(state, length, big_word(PRODUCT), big_word(PRODUCT + 8), size_decrease, MAX_ORDERS, MAX_ORDERS, NUMBER);
+}
+
 static struct book new_book(void)
 {
     struct book b;
     memset(&b, 0, sizeof b);
-    b.state[PINUGLAW_STATE_PRODUCT_HIGH] = big_word(PRODUCT);
-    b.state[PINUGLAW_STATE_PRODUCT_LOW] = big_word(PRODUCT + 8);
-    b.state[PINUGLAW_STATE_MAX_ORDERS] = MAX_ORDERS;
-    b.state[PINUGLAW_STATE_MAX_LEVELS] = MAX_ORDERS;
-    b.state[PINUGLAW_STATE_NUMBER] = 41;
-    for (size_t i = 0; i < MAX_ORDERS; i++)
-        b.scratch[i] = JUNK;
+    fill(LENT(b.state), JUNK);
+    fill(LENT(b.scratch), JUNK);
+    SAME(make_state(LENT(b.state), PINUGLAW_DECREASE_KEEPS_PRIORITY), PINUGLAW_OK);
     return b;
 }
 
@@ -198,7 +208,7 @@ static void check_reader(void)
     SAME(pinuglaw_read_message(match.bytes, match.length - 1, LENT(message)), PINUGLAW_NOT_A_PIECE);
     struct piece wide = open_piece(101, C, 1000000000000001, 5);
     SAME(pinuglaw_read_message(wide.bytes, wide.length, LENT(message)), PINUGLAW_AMOUNT_OUT_OF_RANGE);
-    SAME(pinuglaw_read_message(match.bytes, match.length, message, 20), PINUGLAW_OUTPUT_TOO_SMALL);
+    SAME(pinuglaw_read_message(match.bytes, match.length, message, PINUGLAW_MESSAGE_WORDS - 1), PINUGLAW_OUTPUT_TOO_SMALL);
 }
 
 #define MESSAGE(kind, sequence) \
@@ -245,6 +255,20 @@ static void check_fields(void)
           [PINUGLAW_CHANGE_NEW_PRICE] = 1, [PINUGLAW_CHANGE_NEW_PRICE + 1] = 25, [PINUGLAW_CHANGE_NEW_FUNDS] = 1, [PINUGLAW_CHANGE_NEW_FUNDS + 1] = 26);
 }
 
+/* A new state: 4 before 7, and nothing past its words. */
+static void check_new(void)
+{
+    uint64_t state[PINUGLAW_STATE_WORDS + 1];
+    fill(LENT(state), JUNK);
+    SAME(make_state(state, PINUGLAW_STATE_WORDS - 1, NO_VALUE), PINUGLAW_NOT_A_PIECE);
+    SAME(make_state(LENT(state), NO_VALUE), PINUGLAW_NOT_A_PIECE);
+    SAME(make_state(state, PINUGLAW_STATE_WORDS - 1, PINUGLAW_DECREASE_PRIORITY_UNKNOWN), PINUGLAW_OUTPUT_TOO_SMALL);
+    for (size_t i = 0; i <= PINUGLAW_STATE_WORDS; i++)
+        SAME(state[i], JUNK);
+    SAME(make_state(LENT(state), PINUGLAW_DECREASE_PRIORITY_UNKNOWN), PINUGLAW_OK);
+    WORDS(state, big_word(PRODUCT), big_word(PRODUCT + 8), PINUGLAW_DECREASE_PRIORITY_UNKNOWN, MAX_ORDERS, MAX_ORDERS, NUMBER, [PINUGLAW_STATE_WORDS] = JUNK);
+}
+
 static void check_bootstrap(struct book *b)
 {
     uint64_t last[1] = {JUNK};
@@ -252,7 +276,7 @@ static void check_bootstrap(struct book *b)
     SAME(last[0], JUNK);
     struct piece snapshot = snapshot_of_e(100);
     SAME(take_snapshot(b, &snapshot), PINUGLAW_OK);
-    WORDS(b->state, big_word(PRODUCT), big_word(PRODUCT + 8), 0, 3, 3, 41, PINUGLAW_STATUS_VALID, 100, 0, 0, 0, 0, 0, 2, 1, 0, 0, 0, 0, 0, 0, 0, 0, 0, 0, 0, 0);
+    WORDS(b->state, big_word(PRODUCT), big_word(PRODUCT + 8), 0, 3, 3, NUMBER, PINUGLAW_STATUS_VALID, 100, 0, 0, 0, 0, 0, 2, 1, 0, 0, 0, 0, 0, 0, 0, 0, 0, 0, 0, 0);
     WORDS(b->rows, ID_HIGH, A, 10, 2, 0, 100, 0, 0, ID_HIGH, B, 12, 3, 1, 100, 0, 0, 0, 0, 0, 0, 0, 0, 0, 0);
     WORDS(b->segments, 100, 100, 0, 0, 0, 0, 0, 0, 0, 0, 0, 0, 0, 0, 0, 0);
     SAME(pinuglaw_rows_broken(LENT(b->rows), 2, 3), 0);
@@ -263,14 +287,14 @@ static void check_bootstrap(struct book *b)
 static void check_handshake(struct book *b)
 {
     uint64_t handshake[PINUGLAW_HANDSHAKE_WORDS];
-    SAME(pinuglaw_handshake(LENT(b->state), handshake, 3), PINUGLAW_OUTPUT_TOO_SMALL);
+    SAME(pinuglaw_handshake(LENT(b->state), handshake, PINUGLAW_HANDSHAKE_WORDS - 1), PINUGLAW_OUTPUT_TOO_SMALL);
     SAME(pinuglaw_handshake(LENT(b->state), LENT(handshake)), PINUGLAW_OK);
-    WORDS(handshake, 41, 0, 0, 0);
+    WORDS(handshake, NUMBER, 0, 0, 0);
     SAME(step(b, handshake, match_piece(100, A, 2)), PINUGLAW_DROPPED);
-    WORDS(handshake, 41, 0, 0, 0);
+    WORDS(handshake, NUMBER, 0, 0, 0);
     SAME(b->state[PINUGLAW_STATE_HANDSHAKE_DROPPED], 1);
     SAME(step(b, handshake, open_piece(101, C, 10, 5)), PINUGLAW_BOOK_CHANGED);
-    WORDS(handshake, 41, 0, 0, 1);
+    WORDS(handshake, NUMBER, 0, 0, 1);
     WORDS(b->rows, ID_HIGH, A, 10, 2, 0, 100, 0, 0, ID_HIGH, B, 12, 3, 1, 100, 0, 0, ID_HIGH, C, 10, 5, 2, 101, 0, 0);
     WORDS(b->segments, 100, 101, 0, 0, 0, 0, 101000, 101000);
     const uint64_t *c = b->rows + 2 * PINUGLAW_ROW_WORDS;
@@ -278,7 +302,7 @@ static void check_handshake(struct book *b)
           [PINUGLAW_ROW_ENTERED_AT] = 101, [PINUGLAW_ROW_DECREASED] = 0, [PINUGLAW_ROW_DECREASED_AT] = 0);
     handshake[PINUGLAW_HANDSHAKE_PLACE] = 1;
     SAME(step(b, handshake, match_piece(102, A, 2)), PINUGLAW_HANDSHAKE_OVER);
-    WORDS(handshake, 41, 1, 0, 1);
+    WORDS(handshake, NUMBER, 1, 0, 1);
 }
 
 static void check_level_reads(struct book *b)
@@ -314,7 +338,7 @@ static void check_small_reads(struct book *b)
     SAME(pinuglaw_best(LENT(b->state), LENT(b->rows), LENT(best)), PINUGLAW_OK);
     WORDS(best, [PINUGLAW_BEST_HAS_BID] = 1, [PINUGLAW_BEST_BID] = 10, [PINUGLAW_BEST_HAS_ASK] = 1, [PINUGLAW_BEST_ASK] = 12);
     SAME(pinuglaw_audit(LENT(b->state), LENT(b->rows)), PINUGLAW_OK);
-    SAME(pinuglaw_audit(LENT(b->state), b->rows, 23), PINUGLAW_MEMORY_TOO_SHORT);
+    SAME(pinuglaw_audit(LENT(b->state), b->rows, MAX_ORDERS * PINUGLAW_ROW_WORDS - 1), PINUGLAW_MEMORY_TOO_SHORT);
     uint64_t why[PINUGLAW_INVALIDATION_WORDS] = {5, 5, 5, 5, 5, 5}, record[PINUGLAW_RECORD_WORDS];
     SAME(pinuglaw_invalidation(LENT(b->state), LENT(why)), PINUGLAW_NOT_STALE);
     WORDS(why, 5, 5, 5, 5, 5, 5);
@@ -334,10 +358,10 @@ static void check_estimates(struct book *b)
     uint64_t volume[PINUGLAW_VOLUME_WORDS];
     memset(ahead, 0, sizeof ahead);
     SAME(pinuglaw_queue_estimate_own(LENT(b->state), LENT(b->rows), ID_HIGH, C, LENT(own)), PINUGLAW_OK);
-    WORDS(own, [PINUGLAW_ESTIMATE_SIDE] = BUY, [PINUGLAW_ESTIMATE_PRICE] = 10, [PINUGLAW_ESTIMATE_NUMBER] = 41, [PINUGLAW_ESTIMATE_PLACE] = 0,
+    WORDS(own, [PINUGLAW_ESTIMATE_SIDE] = BUY, [PINUGLAW_ESTIMATE_PRICE] = 10, [PINUGLAW_ESTIMATE_NUMBER] = NUMBER, [PINUGLAW_ESTIMATE_PLACE] = 0,
           [PINUGLAW_ESTIMATE_OWN] = 1, [PINUGLAW_ESTIMATE_ID_HIGH] = ID_HIGH, [PINUGLAW_ESTIMATE_ID_LOW] = C, [PINUGLAW_ESTIMATE_ENTERED_AT] = 101);
     SAME(pinuglaw_queue_estimate(LENT(b->state), LENT(b->rows), BUY, 10, LENT(ahead), LENT(behind)), PINUGLAW_OK);
-    WORDS(behind, BUY, 10, 41, 0, 0, 2, 101, 0);
+    WORDS(behind, BUY, 10, NUMBER, 0, 0, 2, 101, 0);
     SAME(behind[PINUGLAW_ESTIMATE_ORDERS], 2);
     SAME(behind[PINUGLAW_ESTIMATE_CREATED_AT], 101);
     WORDS(ahead, ID_HIGH, A, 100, ID_HIGH, C, 101, 0, 0, 0);
@@ -360,7 +384,7 @@ static void check_resent(struct book *b)
     uint64_t own[PINUGLAW_ESTIMATE_WORDS], volume[PINUGLAW_VOLUME_WORDS], out[PINUGLAW_L2_WORDS], count[1];
     SAME(pinuglaw_queue_estimate_own(LENT(b->state), LENT(b->rows), ID_HIGH, C, LENT(own)), PINUGLAW_OK);
     SAME(apply(b, match_piece(102, A, 2)), PINUGLAW_INVALIDATED);
-    WORDS(b->state, big_word(PRODUCT), big_word(PRODUCT + 8), 0, 3, 3, 41, PINUGLAW_STATUS_INVALID, 102, 102, PINUGLAW_OUT_OF_ORDER_OR_DUPLICATE, 102, 102, 0, 2, 1, 0,
+    WORDS(b->state, big_word(PRODUCT), big_word(PRODUCT + 8), 0, 3, 3, NUMBER, PINUGLAW_STATUS_INVALID, 102, 102, PINUGLAW_OUT_OF_ORDER_OR_DUPLICATE, 102, 102, 0, 2, 1, 0,
           1, 0, 1, 0, 0, 0, 0, 1, 0, 0, 0);
     WORDS(b->segments, 100, 102, PINUGLAW_OUT_OF_ORDER_OR_DUPLICATE, 102, 102, 0, 101000, 102000, 0, 0, 0, 0, 0, 0, 0, 0);
     uint64_t why[PINUGLAW_INVALIDATION_WORDS], record[PINUGLAW_RECORD_WORDS];
@@ -381,35 +405,270 @@ static void check_resent(struct book *b)
     SAME(take_snapshot(b, &snapshot), PINUGLAW_SEGMENT_LIST_FULL);
     uint64_t handshake[PINUGLAW_HANDSHAKE_WORDS];
     SAME(pinuglaw_handshake(LENT(b->state), LENT(handshake)), PINUGLAW_OK);
-    WORDS(handshake, 41, 1, 0, 0);
+    WORDS(handshake, NUMBER, 1, 0, 0);
     SAME(step(b, handshake, match_piece(202, A, 1)), PINUGLAW_INVALIDATED);
-    WORDS(handshake, 41, 1, 1, 0);
+    WORDS(handshake, NUMBER, 1, 1, 0);
     SAME(b->state[PINUGLAW_STATE_REASON], PINUGLAW_GAP);
     SAME(step(b, handshake, match_piece(201, A, 1)), PINUGLAW_HANDSHAKE_OVER);
 }
 
-/* A run of messages in one call: what single calls answer and leave, the re-sent match and what follows it among them. */
+/* ---- The order of the numbers: 768, 4, then 1, 2 and 3, then the call's own, and 7 last. None of these calls writes a word. */
+
+static struct book valid_e(void)
+{
+    struct book b = new_book();
+    struct piece snapshot = snapshot_of_e(100);
+    SAME(take_snapshot(&b, &snapshot), PINUGLAW_OK);
+    return b;
+}
+
+/* E once the line has left out a message. */
+static struct book invalid_e(void)
+{
+    struct book b = valid_e();
+    SAME(apply(&b, open_piece(102, C, 10, 5)), PINUGLAW_INVALIDATED);
+    return b;
+}
+
+static void same_book(int line, const struct book *got, const struct book *expected)
+{
+    same_words(line, "state", got->state, expected->state, PINUGLAW_STATE_WORDS);
+    same_words(line, "rows", got->rows, expected->rows, sizeof got->rows / sizeof got->rows[0]);
+    same_words(line, "segments", got->segments, expected->segments, sizeof got->segments / sizeof got->segments[0]);
+    same_words(line, "scratch", got->scratch, expected->scratch, MAX_ORDERS);
+}
+
+#define SAME_BOOK(got, expected) same_book(__LINE__, got, expected)
+
+static uint64_t apply_words(struct book *b, const uint64_t *message, size_t length)
+{
+    return pinuglaw_apply(LENT(b->state), LENT(b->rows), LENT(b->segments), message, length);
+}
+
+/* The words of a message for E, the next one. */
+static void next_message(uint64_t message[PINUGLAW_MESSAGE_WORDS], uint64_t kind)
+{
+    fill(message, PINUGLAW_MESSAGE_WORDS, 0);
+    message[PINUGLAW_MESSAGE_KIND] = kind;
+    message[PINUGLAW_MESSAGE_PRODUCT_HIGH] = big_word(PRODUCT);
+    message[PINUGLAW_MESSAGE_PRODUCT_LOW] = big_word(PRODUCT + 8);
+    message[PINUGLAW_MESSAGE_SEQUENCE] = 101;
+}
+
+/* Without a snapshot nothing is shown, and a handshake has ended before its first step. */
+static void check_fresh(void)
+{
+    struct book b = new_book();
+    const struct book kept = b;
+    uint64_t best[PINUGLAW_BEST_WORDS - 1], handshake[PINUGLAW_HANDSHAKE_WORDS];
+    fill(LENT(best), JUNK);
+    SAME(pinuglaw_best(LENT(b.state), LENT(b.rows), LENT(best)), PINUGLAW_NOT_BOOTSTRAPPED);
+    SAME(pinuglaw_last_sequence(LENT(b.state), LENT(b.rows), best, 0), PINUGLAW_NOT_BOOTSTRAPPED);
+    WORDS(best, JUNK, JUNK, JUNK);
+    SAME(pinuglaw_handshake(LENT(b.state), LENT(handshake)), PINUGLAW_OK);
+    WORDS(handshake, NUMBER, 0, [PINUGLAW_HANDSHAKE_ENDED] = 1, [PINUGLAW_HANDSHAKE_APPLIED] = 0);
+    SAME(step(&b, handshake, open_piece(101, C, 10, 5)), PINUGLAW_HANDSHAKE_OVER);
+    SAME_BOOK(&b, &kept);
+}
+
+/* What turns a call away comes before an output that is too small. */
+static void check_outputs_last(void)
+{
+    struct book valid = valid_e(), invalid = invalid_e();
+    const struct book kept_valid = valid, kept_invalid = invalid;
+    uint64_t behind[PINUGLAW_ESTIMATE_WORDS], ahead[PINUGLAW_AHEAD_WORDS], out[PINUGLAW_RECORD_WORDS], count[PINUGLAW_COUNT_WORDS] = {JUNK};
+    SAME(pinuglaw_queue_estimate(LENT(valid.state), LENT(valid.rows), BUY, 10, LENT(ahead), LENT(behind)), PINUGLAW_OK);
+    fill(LENT(out), JUNK);
+    SAME(pinuglaw_volume_ahead(LENT(invalid.state), LENT(invalid.rows), LENT(behind), LENT(ahead), out, PINUGLAW_VOLUME_WORDS - 1), PINUGLAW_VIEW_INVALIDATED);
+    SAME(pinuglaw_volume_ahead(LENT(valid.state), LENT(valid.rows), LENT(behind), ahead, 2, out, 0), PINUGLAW_AHEAD_LIST_UNUSABLE);
+    SAME(pinuglaw_volume_ahead(LENT(valid.state), LENT(valid.rows), LENT(behind), LENT(ahead), out, PINUGLAW_VOLUME_WORDS - 1), PINUGLAW_OUTPUT_TOO_SMALL);
+    SAME(pinuglaw_queue_estimate_own(LENT(valid.state), LENT(valid.rows), ID_HIGH, Z, out, 0), PINUGLAW_NOT_RESTING);
+    SAME(pinuglaw_queue_estimate_own(LENT(valid.state), LENT(valid.rows), ID_HIGH, A, out, 0), PINUGLAW_PRIORITY_UNKNOWN);
+    SAME(pinuglaw_queue_estimate(LENT(valid.state), LENT(valid.rows), BUY, 10, LENT(ahead), out, PINUGLAW_ESTIMATE_WORDS - 1), PINUGLAW_OUTPUT_TOO_SMALL);
+    SAME(pinuglaw_stale_l2(LENT(valid.state), LENT(valid.rows), LENT(valid.scratch), BUY, out, 0, count, 0), PINUGLAW_NOT_STALE);
+    SAME(pinuglaw_stale_l2(LENT(invalid.state), LENT(invalid.rows), LENT(invalid.scratch), BUY, LENT(out), count, 0), PINUGLAW_OUTPUT_TOO_SMALL);
+    SAME(pinuglaw_l2(LENT(invalid.state), LENT(invalid.rows), LENT(invalid.scratch), BUY, out, 0, count, 0), PINUGLAW_VIEW_INVALIDATED);
+    SAME(pinuglaw_l2(LENT(valid.state), LENT(valid.rows), LENT(valid.scratch), BUY, LENT(out), count, 0), PINUGLAW_OUTPUT_TOO_SMALL);
+    SAME(pinuglaw_invalidation(LENT(valid.state), out, 0), PINUGLAW_NOT_STALE);
+    SAME(pinuglaw_invalidation(LENT(invalid.state), out, PINUGLAW_INVALIDATION_WORDS - 1), PINUGLAW_OUTPUT_TOO_SMALL);
+    SAME(pinuglaw_segment(LENT(valid.state), LENT(valid.segments), 1, out, 0), PINUGLAW_NO_RECORD);
+    SAME(pinuglaw_segment(LENT(valid.state), LENT(valid.segments), 0, out, PINUGLAW_RECORD_WORDS - 1), PINUGLAW_OUTPUT_TOO_SMALL);
+    WORDS(out, JUNK, JUNK, JUNK, JUNK, JUNK, JUNK, JUNK, JUNK, JUNK, JUNK);
+    SAME(count[0], JUNK);
+    SAME_BOOK(&valid, &kept_valid);
+    SAME_BOOK(&invalid, &kept_invalid);
+}
+
+/* A state that lacks a word, lent to every call; the outputs are too small besides, and the sides no sides. */
+static void check_short_states(struct book *b, uint64_t *words)
+{
+    const size_t lent = PINUGLAW_STATE_WORDS - 1;
+    uint64_t *state = b->state, message[PINUGLAW_MESSAGE_WORDS] = {0}, handshake[PINUGLAW_HANDSHAKE_WORDS] = {0}, count[PINUGLAW_COUNT_WORDS];
+    const struct piece snapshot = snapshot_of_e(200);
+    SAME(pinuglaw_apply(state, lent, LENT(b->rows), LENT(b->segments), LENT(message)), PINUGLAW_SHORT_INPUT);
+    SAME(pinuglaw_step(state, lent, LENT(b->rows), LENT(b->segments), LENT(handshake), LENT(message)), PINUGLAW_SHORT_INPUT);
+    SAME(pinuglaw_replay(state, lent, LENT(b->rows), LENT(b->segments), LENT(message), words, 0), PINUGLAW_SHORT_INPUT);
+    SAME(pinuglaw_bootstrap(state, lent, LENT(b->rows), LENT(b->segments), snapshot.bytes, snapshot.length), PINUGLAW_SHORT_INPUT);
+    SAME(pinuglaw_handshake(state, lent, words, 0), PINUGLAW_SHORT_INPUT);
+    SAME(pinuglaw_last_sequence(state, lent, LENT(b->rows), words, 0), PINUGLAW_SHORT_INPUT);
+    SAME(pinuglaw_best(state, lent, LENT(b->rows), words, 0), PINUGLAW_SHORT_INPUT);
+    SAME(pinuglaw_audit(state, lent, LENT(b->rows)), PINUGLAW_SHORT_INPUT);
+    SAME(pinuglaw_invalidation(state, lent, words, 0), PINUGLAW_SHORT_INPUT);
+    SAME(pinuglaw_segment(state, lent, LENT(b->segments), 0, words, 0), PINUGLAW_SHORT_INPUT);
+    SAME(pinuglaw_level_queue(state, lent, LENT(b->rows), b->scratch, 0, NO_VALUE, 10, words, 0, count, 0), PINUGLAW_SHORT_INPUT);
+    SAME(pinuglaw_priority_profile(state, lent, LENT(b->rows), b->scratch, 0, NO_VALUE, words, 0, count, 0), PINUGLAW_SHORT_INPUT);
+    SAME(pinuglaw_l2(state, lent, LENT(b->rows), b->scratch, 0, NO_VALUE, words, 0, count, 0), PINUGLAW_SHORT_INPUT);
+    SAME(pinuglaw_stale_l2(state, lent, LENT(b->rows), b->scratch, 0, NO_VALUE, words, 0, count, 0), PINUGLAW_SHORT_INPUT);
+    SAME(pinuglaw_queue_estimate(state, lent, LENT(b->rows), NO_VALUE, 10, words, 0, count, 0), PINUGLAW_SHORT_INPUT);
+    SAME(pinuglaw_queue_estimate_own(state, lent, LENT(b->rows), ID_HIGH, Z, words, 0), PINUGLAW_SHORT_INPUT);
+    SAME(pinuglaw_volume_ahead(state, lent, LENT(b->rows), words, PINUGLAW_ESTIMATE_WORDS, handshake, 0, count, 0), PINUGLAW_SHORT_INPUT);
+}
+
+static void check_short_inputs(void)
+{
+    struct book b = valid_e();
+    const struct book kept = b;
+    uint64_t words[PINUGLAW_ESTIMATE_WORDS], message[PINUGLAW_MESSAGE_WORDS], handshake[PINUGLAW_HANDSHAKE_WORDS], ahead[1], volume[1];
+    fill(LENT(words), JUNK);
+    check_short_states(&b, words);
+    next_message(message, PINUGLAW_KIND_RECEIVED);
+    SAME(apply_words(&b, message, PINUGLAW_MESSAGE_WORDS - 1), PINUGLAW_SHORT_INPUT);
+    SAME(pinuglaw_handshake(LENT(b.state), LENT(handshake)), PINUGLAW_OK);
+    SAME(pinuglaw_step(LENT(b.state), LENT(b.rows), LENT(b.segments), handshake, PINUGLAW_HANDSHAKE_WORDS - 1, LENT(message)), PINUGLAW_SHORT_INPUT);
+    SAME(pinuglaw_step(LENT(b.state), LENT(b.rows), LENT(b.segments), LENT(handshake), message, PINUGLAW_MESSAGE_WORDS - 1), PINUGLAW_SHORT_INPUT);
+    SAME(pinuglaw_volume_ahead(LENT(b.state), LENT(b.rows), words, PINUGLAW_ESTIMATE_WORDS - 1, ahead, 0, volume, 0), PINUGLAW_SHORT_INPUT);
+    WORDS(handshake, NUMBER, 0, 0, 0);
+    for (size_t i = 0; i < PINUGLAW_ESTIMATE_WORDS; i++)
+        SAME(words[i], JUNK);
+    SAME_BOOK(&b, &kept);
+}
+
+/* Words that no message of a kind has at a place that the kind names. */
+static const struct {
+    uint64_t kind;
+    size_t place;
+    uint64_t word;
+} NO_VALUES[] = {
+    {0, PINUGLAW_MESSAGE_KIND, 0},
+    {PINUGLAW_KIND_UNSUPPORTED + 1, PINUGLAW_MESSAGE_KIND, PINUGLAW_KIND_UNSUPPORTED + 1},
+    {PINUGLAW_KIND_RECEIVED, PINUGLAW_MESSAGE_SIDE, NO_VALUE},
+    {PINUGLAW_KIND_OPEN, PINUGLAW_MESSAGE_SIDE, NO_VALUE},
+    {PINUGLAW_KIND_DONE, PINUGLAW_MESSAGE_SIDE, NO_VALUE},
+    {PINUGLAW_KIND_DONE, PINUGLAW_DONE_PRICE, NO_VALUE},
+    {PINUGLAW_KIND_DONE, PINUGLAW_DONE_REASON, NO_VALUE},
+    {PINUGLAW_KIND_DONE, PINUGLAW_DONE_REMAINING, NO_VALUE},
+    {PINUGLAW_KIND_MATCH, PINUGLAW_MATCH_SIDE, NO_VALUE},
+    {PINUGLAW_KIND_CHANGE, PINUGLAW_MESSAGE_SIDE, NO_VALUE},
+    {PINUGLAW_KIND_CHANGE, PINUGLAW_CHANGE_REASON, NO_VALUE},
+    {PINUGLAW_KIND_CHANGE, PINUGLAW_CHANGE_PRICE, NO_VALUE},
+    {PINUGLAW_KIND_CHANGE, PINUGLAW_CHANGE_OLD_SIZE, NO_VALUE},
+    {PINUGLAW_KIND_CHANGE, PINUGLAW_CHANGE_NEW_SIZE, NO_VALUE},
+    {PINUGLAW_KIND_CHANGE, PINUGLAW_CHANGE_OLD_PRICE, NO_VALUE},
+    {PINUGLAW_KIND_CHANGE, PINUGLAW_CHANGE_NEW_PRICE, NO_VALUE},
+    {PINUGLAW_KIND_CHANGE, PINUGLAW_CHANGE_NEW_FUNDS, NO_VALUE},
+    {PINUGLAW_KIND_UNSUPPORTED, PINUGLAW_UNSUPPORTED_NUMBER, UINT64_C(1) << 32},
+};
+
+/* 4 comes before 2, which the rows and scratch of no words would bring. */
+static void check_words_of_no_value(void)
+{
+    struct book b = valid_e();
+    const struct book kept = b;
+    uint64_t message[PINUGLAW_MESSAGE_WORDS], handshake[PINUGLAW_HANDSHAKE_WORDS], out[PINUGLAW_VOLUME_WORDS], count[PINUGLAW_COUNT_WORDS], ahead[1];
+    SAME(pinuglaw_handshake(LENT(b.state), LENT(handshake)), PINUGLAW_OK);
+    for (size_t i = 0; i < sizeof NO_VALUES / sizeof NO_VALUES[0]; i++) {
+        next_message(message, NO_VALUES[i].kind);
+        message[NO_VALUES[i].place] = NO_VALUES[i].word;
+        SAME(apply_words(&b, LENT(message)), PINUGLAW_NOT_A_PIECE);
+        SAME(pinuglaw_apply(LENT(b.state), b.rows, 0, LENT(b.segments), LENT(message)), PINUGLAW_NOT_A_PIECE);
+        SAME(pinuglaw_step(LENT(b.state), LENT(b.rows), LENT(b.segments), LENT(handshake), LENT(message)), PINUGLAW_NOT_A_PIECE);
+    }
+    next_message(message, PINUGLAW_KIND_RECEIVED);
+    handshake[PINUGLAW_HANDSHAKE_ENDED] = NO_VALUE;
+    SAME(pinuglaw_step(LENT(b.state), b.rows, 0, LENT(b.segments), LENT(handshake), LENT(message)), PINUGLAW_NOT_A_PIECE);
+    WORDS(handshake, NUMBER, 0, NO_VALUE, 0);
+    SAME(pinuglaw_level_queue(LENT(b.state), b.rows, 0, b.scratch, 0, NO_VALUE, 10, LENT(out), LENT(count)), PINUGLAW_NOT_A_PIECE);
+    SAME(pinuglaw_priority_profile(LENT(b.state), b.rows, 0, b.scratch, 0, NO_VALUE, LENT(out), LENT(count)), PINUGLAW_NOT_A_PIECE);
+    SAME(pinuglaw_l2(LENT(b.state), b.rows, 0, b.scratch, 0, NO_VALUE, LENT(out), LENT(count)), PINUGLAW_NOT_A_PIECE);
+    SAME(pinuglaw_stale_l2(LENT(b.state), b.rows, 0, b.scratch, 0, NO_VALUE, LENT(out), LENT(count)), PINUGLAW_NOT_A_PIECE);
+    SAME(pinuglaw_queue_estimate(LENT(b.state), b.rows, 0, NO_VALUE, 10, ahead, 0, out, 0), PINUGLAW_NOT_A_PIECE);
+    uint64_t of_no_side[PINUGLAW_ESTIMATE_WORDS] = {NO_VALUE}, of_no_order[PINUGLAW_ESTIMATE_WORDS] = {[PINUGLAW_ESTIMATE_OWN] = NO_VALUE};
+    SAME(pinuglaw_volume_ahead(LENT(b.state), b.rows, 0, LENT(of_no_side), ahead, 0, LENT(out)), PINUGLAW_NOT_A_PIECE);
+    SAME(pinuglaw_volume_ahead(LENT(b.state), b.rows, 0, LENT(of_no_order), ahead, 0, LENT(out)), PINUGLAW_NOT_A_PIECE);
+    SAME_BOOK(&b, &kept);
+}
+
+/* Words that no book has, in the state of an invalid one. */
+static const struct {
+    size_t place;
+    uint64_t word;
+} NO_BOOKS[] = {
+    {PINUGLAW_STATE_SIZE_DECREASE, NO_VALUE},
+    {PINUGLAW_STATE_STATUS, PINUGLAW_STATUS_INVALID + 1},
+    {PINUGLAW_STATE_REASON, 0},
+    {PINUGLAW_STATE_REASON, PINUGLAW_GAP - 1},
+    {PINUGLAW_STATE_REASON, PINUGLAW_SEQUENCE_OVERFLOW + 1},
+    {PINUGLAW_STATE_REASON, PINUGLAW_UNKNOWN_MAKER - 1},
+    {PINUGLAW_STATE_REASON, PINUGLAW_UNSUPPORTED_INPUT + 1},
+};
+
+/* Such a state is 3, after 1 and 2; of the calls that are lent no rows at once. */
+static void check_state_of_no_book(struct book b)
+{
+    const struct book kept = b;
+    uint64_t message[PINUGLAW_MESSAGE_WORDS], out[PINUGLAW_RECORD_WORDS], count[PINUGLAW_COUNT_WORDS];
+    const struct piece snapshot = snapshot_of_e(200);
+    next_message(message, PINUGLAW_KIND_RECEIVED);
+    SAME(apply_words(&b, LENT(message)), PINUGLAW_BROKEN_BOOK);
+    SAME(take_snapshot(&b, &snapshot), PINUGLAW_BROKEN_BOOK);
+    SAME(pinuglaw_replay(LENT(b.state), LENT(b.rows), LENT(b.segments), LENT(message), out, 0), PINUGLAW_BROKEN_BOOK);
+    SAME(pinuglaw_best(LENT(b.state), LENT(b.rows), out, 0), PINUGLAW_BROKEN_BOOK);
+    SAME(pinuglaw_stale_l2(LENT(b.state), LENT(b.rows), LENT(b.scratch), BUY, out, 0, count, 0), PINUGLAW_BROKEN_BOOK);
+    SAME(pinuglaw_handshake(LENT(b.state), out, 0), PINUGLAW_BROKEN_BOOK);
+    SAME(pinuglaw_invalidation(LENT(b.state), out, 0), PINUGLAW_BROKEN_BOOK);
+    SAME(pinuglaw_segment(LENT(b.state), LENT(b.segments), 0, out, 0), PINUGLAW_BROKEN_BOOK);
+    SAME(pinuglaw_apply(LENT(b.state), LENT(b.rows), b.segments, 0, LENT(message)), PINUGLAW_MEMORY_TOO_SHORT);
+    SAME(pinuglaw_best(LENT(b.state), b.rows, 0, out, 0), PINUGLAW_MEMORY_TOO_SHORT);
+    SAME(pinuglaw_l2(LENT(b.state), LENT(b.rows), b.scratch, 0, BUY, out, 0, count, 0), PINUGLAW_MEMORY_TOO_SHORT);
+    SAME_BOOK(&b, &kept);
+    b.state[PINUGLAW_STATE_MAX_LEVELS] = PINUGLAW_CEILING + 1;
+    SAME(pinuglaw_best(LENT(b.state), b.rows, 0, out, 0), PINUGLAW_LIMIT_ABOVE_CEILING);
+    SAME(pinuglaw_handshake(LENT(b.state), out, 0), PINUGLAW_BROKEN_BOOK);
+}
+
+static void check_states_of_no_book(void)
+{
+    for (size_t i = 0; i < sizeof NO_BOOKS / sizeof NO_BOOKS[0]; i++) {
+        struct book b = invalid_e();
+        b.state[NO_BOOKS[i].place] = NO_BOOKS[i].word;
+        check_state_of_no_book(b);
+    }
+    struct book b = invalid_e();
+    b.state[PINUGLAW_STATE_REASON] = PINUGLAW_MALFORMED_CHANGE;
+    b.state[PINUGLAW_STATE_DETAIL] = NO_VALUE;
+    check_state_of_no_book(b);
+}
+
+/* A run of messages in one call: what single calls answer and leave, the re-sent match, what follows it and words of no message among them. */
 static void check_replay(void)
 {
-    struct book singly = new_book(), book = new_book();
-    struct piece snapshot = snapshot_of_e(100);
-    SAME(take_snapshot(&singly, &snapshot), PINUGLAW_OK);
-    SAME(take_snapshot(&book, &snapshot), PINUGLAW_OK);
-    const struct piece run[] = {open_piece(101, C, 10, 5), match_piece(102, A, 2), match_piece(102, A, 2), open_piece(103, D, 9, 1)};
-    enum { RUN = sizeof run / sizeof run[0] };
-    uint64_t messages[RUN * PINUGLAW_MESSAGE_WORDS], answers[RUN + 1] = {JUNK, JUNK, JUNK, JUNK, JUNK};
+    struct book singly = valid_e(), book = singly;
+    enum { RUN = 5, OF_NO_MESSAGE = 2 };
+    uint64_t messages[RUN * PINUGLAW_MESSAGE_WORDS], answers[RUN + 1];
+    const struct piece run[RUN] = {open_piece(101, C, 10, 5), match_piece(102, A, 2), open_piece(103, D, 9, 1), match_piece(102, A, 2), open_piece(103, D, 9, 1)};
     for (size_t i = 0; i < RUN; i++)
         read_into(messages + i * PINUGLAW_MESSAGE_WORDS, run[i]);
+    messages[OF_NO_MESSAGE * PINUGLAW_MESSAGE_WORDS + PINUGLAW_MESSAGE_SIDE] = NO_VALUE;
+    fill(LENT(answers), JUNK);
     SAME(pinuglaw_replay(LENT(book.state), LENT(book.rows), LENT(book.segments), LENT(messages), answers, RUN - 1), PINUGLAW_OUTPUT_TOO_SMALL);
-    same_words(__LINE__, "book.state", book.state, singly.state, PINUGLAW_STATE_WORDS);
-    WORDS(answers, JUNK, JUNK, JUNK, JUNK, JUNK);
+    SAME(pinuglaw_replay(LENT(book.state), book.rows, 0, LENT(book.segments), LENT(messages), answers, RUN - 1), PINUGLAW_MEMORY_TOO_SHORT);
+    SAME_BOOK(&book, &singly);
+    WORDS(answers, JUNK, JUNK, JUNK, JUNK, JUNK, JUNK);
     SAME(pinuglaw_replay(LENT(book.state), LENT(book.rows), LENT(book.segments), LENT(messages), LENT(answers)), PINUGLAW_OK);
-    WORDS(answers, PINUGLAW_BOOK_CHANGED, PINUGLAW_BOOK_CHANGED, PINUGLAW_INVALIDATED, PINUGLAW_AWAITING_SNAPSHOT, JUNK);
+    WORDS(answers, PINUGLAW_BOOK_CHANGED, PINUGLAW_BOOK_CHANGED, PINUGLAW_NOT_A_PIECE, PINUGLAW_INVALIDATED, PINUGLAW_AWAITING_SNAPSHOT, JUNK);
     for (size_t i = 0; i < RUN; i++)
-        SAME(apply(&singly, run[i]), answers[i]);
-    same_words(__LINE__, "book.state", book.state, singly.state, PINUGLAW_STATE_WORDS);
-    same_words(__LINE__, "book.rows", book.rows, singly.rows, sizeof book.rows / sizeof book.rows[0]);
-    same_words(__LINE__, "book.segments", book.segments, singly.segments, sizeof book.segments / sizeof book.segments[0]);
+        SAME(apply_words(&singly, messages + i * PINUGLAW_MESSAGE_WORDS, PINUGLAW_MESSAGE_WORDS), answers[i]);
+    SAME_BOOK(&book, &singly);
 }
 
 int main(void)
@@ -417,12 +676,18 @@ int main(void)
     struct book b = new_book();
     check_reader();
     check_fields();
+    check_new();
     check_bootstrap(&b);
     check_handshake(&b);
     check_small_reads(&b);
     check_level_reads(&b);
     check_estimates(&b);
     check_resent(&b);
+    check_fresh();
+    check_outputs_last();
+    check_short_inputs();
+    check_words_of_no_value();
+    check_states_of_no_book();
     check_replay();
     printf("C: %u checks, %u failed\n", checks, failures);
     return failures != 0;

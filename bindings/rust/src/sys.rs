@@ -1,7 +1,7 @@
 //! The functions that crate `host` exports, and the words they speak in.
 //!
-//! Each function answers 0 or a number of 01's table; `include/pinuglaw.h` says what each takes and writes. The wrappers here lend slices, nothing more: any
-//! words may be handed over, and every call returns.
+//! Each function answers 0 or a number; `include/pinuglaw.h` says what each takes and writes, and which number comes before which. The wrappers here lend
+//! slices, nothing more: any words of any length may be handed over, and every call returns.
 
 /// Declares an exported function and a safe wrapper of it. A slice crosses as a pointer and a length.
 macro_rules! exported {
@@ -38,6 +38,8 @@ exported! {
     fn pinuglaw_read_snapshot as read_snapshot(bytes: &[u8], out: &mut [u64]) -> u64;
     /// Reads the order at a place of a snapshot piece into four words: id (two), price, size.
     fn pinuglaw_snapshot_order as snapshot_order(bytes: &[u8], place: usize, out: &mut [u64]) -> u64;
+    /// Writes the state of a book without a snapshot into [`STATE_WORDS`].
+    fn pinuglaw_new as new(state: &mut [u64], product_high: u64, product_low: u64, size_decrease: u64, max_orders: u64, max_levels: u64, number: u64) -> u64;
     /// Whether `n` rows are no book: number 3's part on the rows.
     fn pinuglaw_rows_broken as rows_broken(rows: &[u64], n: usize, max_levels: usize) -> bool;
     /// Applies a message: [`BOOK_CHANGED`], 0 for one without effect, else 01's number.
@@ -46,11 +48,11 @@ exported! {
     fn pinuglaw_replay as replay(state: &mut [u64], rows: &mut [u64], segments: &mut [u64], messages: &[u64], answers: &mut [u64]) -> u64;
     /// Takes a snapshot piece.
     fn pinuglaw_bootstrap as bootstrap(state: &mut [u64], rows: &mut [u64], segments: &mut [u64], bytes: &[u8]) -> u64;
-    /// Makes a handshake for the segment that the book is in.
+    /// Makes a handshake for the segment that the book is in, an ended one where there is none.
     fn pinuglaw_handshake as handshake(state: &[u64], handshake: &mut [u64]) -> u64;
     /// Steps a handshake by one message: [`DROPPED`], or as [`apply`].
     fn pinuglaw_step as step(state: &mut [u64], rows: &mut [u64], segments: &mut [u64], handshake: &mut [u64], message: &[u64]) -> u64;
-    /// The last sequence applied, into one word.
+    /// The last sequence applied, into [`LAST_SEQUENCE_WORDS`].
     fn pinuglaw_last_sequence as last_sequence(state: &[u64], rows: &[u64], out: &mut [u64]) -> u64;
     /// The best bid and ask, into [`BEST_WORDS`].
     fn pinuglaw_best as best(state: &[u64], rows: &[u64], out: &mut [u64]) -> u64;
@@ -76,13 +78,25 @@ exported! {
     fn pinuglaw_volume_ahead as volume_ahead(state: &[u64], rows: &[u64], estimate: &[u64], ahead: &[u64], out: &mut [u64]) -> u64;
 }
 
-// The numbers of 01's table that a book with memory of its own can be answered.
+// The numbers of 01's table.
 /// An order or level limit above 4,096.
 pub const LIMIT_ABOVE_CEILING: u64 = 1;
-/// No piece.
+/// Rows, scratch or the segment list too short.
+pub const MEMORY_TOO_SHORT: u64 = 2;
+/// Words that are no book.
+pub const BROKEN_BOOK: u64 = 3;
+/// No piece, or words that no value has.
 pub const NOT_A_PIECE: u64 = 4;
 /// An amount out of range.
 pub const AMOUNT_OUT_OF_RANGE: u64 = 5;
+/// No room for another segment record.
+pub const SEGMENT_LIST_FULL: u64 = 6;
+/// An output too small; always said last.
+pub const OUTPUT_TOO_SMALL: u64 = 7;
+/// An ahead-list above 4,096 orders, or of fewer words than its orders need.
+pub const AHEAD_LIST_UNUSABLE: u64 = 8;
+/// A handshake ended, or of another segment.
+pub const HANDSHAKE_OVER: u64 = 9;
 /// Another product.
 pub const WRONG_PRODUCT: u64 = 10;
 /// A snapshot with an id twice.
@@ -152,6 +166,8 @@ pub const NOT_STALE: u64 = 256;
 pub const NO_RECORD: u64 = 256;
 /// The answer to a step whose message lies at or below the snapshot's sequence.
 pub const DROPPED: u64 = 512;
+/// A state, message, handshake or estimate of fewer words than it has.
+pub const SHORT_INPUT: u64 = 768;
 
 /// The ceiling of both limits.
 pub const CEILING: usize = 4096;
@@ -161,7 +177,7 @@ pub const CEILING: usize = 4096;
 pub const STATE_PRODUCT_HIGH: usize = 0;
 /// Its last eight.
 pub const STATE_PRODUCT_LOW: usize = 1;
-/// 0 keeps priority, else priority unknown.
+/// 0 keeps priority, 1 priority unknown.
 pub const STATE_SIZE_DECREASE: usize = 2;
 /// Most orders.
 pub const STATE_MAX_ORDERS: usize = 3;
@@ -243,6 +259,10 @@ pub const MESSAGE_WORDS: usize = 21;
 pub const HANDSHAKE_APPLIED: usize = 3;
 /// The words of a handshake.
 pub const HANDSHAKE_WORDS: usize = 4;
+/// The last sequence.
+pub const LAST_SEQUENCE_WORDS: usize = 1;
+/// The number of entries of a level read.
+pub const COUNT_WORDS: usize = 1;
 /// Of each side whether it has a price, and the price.
 pub const BEST_WORDS: usize = 4;
 /// The words of an order in a level's queue.

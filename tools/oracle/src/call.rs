@@ -244,7 +244,7 @@ pub enum Act {
     Bootstrap { piece: Vec<u8> },
     /// The value of a message piece, lent rows and segments. Bytes without a message's shape get 4 before all else; amounts out of range get 5 in its place.
     Apply { piece: Vec<u8> },
-    /// Makes a handshake of the book's current segment (index: segment count less 1), nothing applied, not ended. Without a segment nothing is made: [`Answer::Absent`].
+    /// Makes a handshake of the book's current segment (index: segment count less 1), nothing applied, not ended. Without a segment: of index 0, ended.
     Handshake { slot: u8 },
     /// As `Apply`.
     Step { slot: u8, piece: Vec<u8> },
@@ -483,7 +483,7 @@ pub struct Said {
 
 #[derive(Debug, Clone, PartialEq, Eq)]
 pub enum Answer {
-    /// A slot that the call names is empty, or there is no segment to make a handshake of: nothing was called.
+    /// A slot that the call names is empty: nothing was called.
     Absent,
     /// Neither the Rust nor the runner can say.
     NoWord,

@@ -23,8 +23,8 @@ pub use slip::Slip;
 use crate::call::State as Shown;
 use crate::call::{
     AHEAD_SEED, Act, Answer, Buffers, Call, Estimate, Field, Handshake, Left, Lent, LevelDigest,
-    LevelOrder, Memory, OUTPUT_SEED, SCRATCH_SEED, Said, Segment, Status, Subject, Values, Voice,
-    digest_segments, digest_words, fresh_rows, fresh_segments, fresh_words, left,
+    LevelOrder, Memory, OUTPUT_SEED, SCRATCH_SEED, Said, Segment, SegmentName, Status, Subject,
+    Values, Voice, digest_segments, digest_words, fresh_rows, fresh_segments, fresh_words, left,
 };
 use crate::call::{Rules, SizeDecrease};
 use crate::piece::{Product, Side};
@@ -190,7 +190,7 @@ impl Model {
                 Some(Reply::of(result, Values::Applied))
             }
             Act::Handshake { slot } => {
-                let handshake = book.handshake()?;
+                let handshake = book.handshake(self.slip);
                 self.handshakes.insert(*slot, handshake);
                 Some(Reply::new(0, Values::Handshake(handshake)))
             }
@@ -239,7 +239,7 @@ impl Model {
         if let Err(refusal) = snapshot::bootstrap(self.slip, &mut book.lend(lent), piece) {
             return Some(Reply::refused(refusal));
         }
-        self.handshakes.insert(slot, book.handshake()?);
+        self.handshakes.insert(slot, book.handshake(self.slip));
         let (mut number, mut why) = (0, None);
         for message in buffer {
             let reply = self.step(book, lent, slot, message)?;
@@ -425,15 +425,19 @@ impl Book {
         }
     }
 
-    fn handshake(&self) -> Option<Handshake> {
-        let segment = self.state.segment_name()?;
+    /// "a handshake value for that segment". Before any snapshot there is none: the handshake has ended, so that every step of it is 9.
+    fn handshake(&self, slip: Planted) -> Handshake {
+        let segment = self.state.segment_name();
         let start_seq = self.last_segment().map_or(0, |record| record.start_seq);
-        Some(Handshake {
-            segment,
+        Handshake {
+            segment: segment.unwrap_or(SegmentName {
+                number: self.state.number,
+                place: 0,
+            }),
             start_seq,
             applied: 0,
-            ended: false,
-        })
+            ended: segment.is_none() && !slip.is(Slip::EarlyHandshakeAlive),
+        }
     }
 
     fn last_segment(&self) -> Option<Segment> {

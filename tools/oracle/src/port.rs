@@ -15,6 +15,8 @@ pub use sys::BOOK_CHANGED as CHANGED;
 pub use sys::DROPPED;
 /// The words of a book's state, and of a handshake; the word of a state that counts the rows.
 pub use sys::HANDSHAKE_WORDS;
+/// The answer where a state, message, handshake or estimate is lent too short.
+pub use sys::SHORT_INPUT;
 pub use sys::STATE_ROWS;
 pub use sys::STATE_WORDS as BLOCK_WORDS;
 
@@ -31,6 +33,25 @@ pub fn read_snapshot(bytes: &[u8], out: &mut [u64]) -> u64 {
 /// Reads the order at a place of a snapshot piece into words.
 pub fn snapshot_order(bytes: &[u8], place: usize, out: &mut [u64]) -> u64 {
     sys::snapshot_order(&lend::read(bytes), place, &mut lend::write(out))
+}
+
+/// Writes the state of a book without a snapshot. The limits are of orders and of levels.
+pub fn new(
+    state: &mut [u64],
+    product: u128,
+    size_decrease: u64,
+    (max_orders, max_levels): (u64, u64),
+    number: u64,
+) -> u64 {
+    sys::new(
+        &mut lend::write(state),
+        (product >> 64) as u64,
+        product as u64,
+        size_decrease,
+        max_orders,
+        max_levels,
+        number,
+    )
 }
 
 /// Number 3's part on the rows.

@@ -1,29 +1,40 @@
-//! The port as a `Subject`: every call through the exported functions.
+//! The port as a `Subject`: every call through the exported functions, and now and then once more with something amiss.
 
+mod amiss;
 mod book;
+mod boundary;
 pub mod cases;
 mod forms;
 mod handshakes;
+mod orders;
 mod reads;
 mod replays;
 mod run;
+mod states;
 mod tally;
+mod trials;
 
 use std::collections::BTreeMap;
 
-use crate::call::{Act, Answer, Applied, Buffers, Call, Said, Status, Subject, Values, Voice};
+use crate::call::{
+    Act, Answer, Applied, Buffers, Call, Lent, Said, Status, Subject, Values, Voice,
+};
 use crate::generate::random::Random;
 use crate::piece::{Message, Snapshot, SnapshotOrder, decode_message, shape_message};
 use crate::port;
 use crate::reader::message_words;
-use book::{Book, Effect, GUARDS};
+use book::{Book, Effect, Extent};
+use boundary::Given;
 use cases::Cases;
+use trials::Trial;
 
 pub use run::{Difference, compare, run};
 pub use tally::Tally;
 
-/// How many calls in a hundred are made before with a slice of a fixed size lent short.
-const SHORT_PERCENT: u64 = 12;
+/// How many in a hundred of the calls that change a book, of steps, and of reads are made with something amiss too.
+const TRIAL_PERCENT: u64 = 15;
+const STEP_TRIAL_PERCENT: u64 = 40;
+const READ_TRIAL_PERCENT: u64 = 50;
 
 pub struct Ported {
     seed: u64,
@@ -102,32 +113,47 @@ impl Ported {
         &mut self,
         export: Export,
         call: &Call,
-        mut function: impl FnMut(&mut [u64], &mut [u64], &mut [u64]) -> u64,
+        function: impl FnOnce(&mut [u64], &mut [u64], &mut [u64]) -> u64,
     ) -> Option<u64> {
         let (book, name) = (self.books.get_mut(&call.book)?, export.name());
-        if self.random.chance(SHORT_PERCENT) {
-            let words = self.random.pick(&[0, port::BLOCK_WORDS - 1]);
-            book.refuses_short(&call.lent, words, &mut function);
-            self.cases.add(name, "state short");
-        }
-        let (before, mut scattered) = (book.block, false);
-        for form in forms::of(&before) {
-            self.cases.add(name, form);
-            scattered = true;
-        }
-        let words = port::BLOCK_WORDS + self.random.below(GUARDS as u64 + 1) as usize;
-        let answer = book.lend(&call.lent, words, function);
+        let before = book.block;
+        let answer = book.lend(&call.lent, Extent::drawn(&mut self.random), function);
         book.check_block(&before, export.effect(answer));
-        if scattered {
+        if let Some(form) = forms::of(&before) {
+            self.cases.add(name, form);
             self.cases.add(name, cases::outcome(answer));
+        }
+        self.cases.invalid(&before, answer);
+        Some(answer)
+    }
+
+    /// The call's book as it is now, where the call is to be made with something amiss too: always where 1 or 2 is to come, which is rare.
+    fn book_for_trial(&mut self, call: &Call, percent: u64) -> Option<Option<Book>> {
+        let book = self.books.get(&call.book)?;
+        let drawn = self.random.chance(percent) || !book.fits(&call.lent);
+        Some(drawn.then(|| book.clone()))
+    }
+
+    fn bootstrap(&mut self, call: &Call, piece: &[u8]) -> Option<u64> {
+        let trial = self.book_for_trial(call, TRIAL_PERCENT)?;
+        let answer = self.lend(Export::Bootstrap, call, |state, rows, segments| {
+            port::bootstrap(state, rows, segments, piece)
+        })?;
+        if let Some(book) = trial {
+            self.try_bootstrap(&book, &call.lent, piece, answer);
         }
         Some(answer)
     }
 
-    fn bootstrap(&mut self, call: &Call, piece: &[u8]) -> Option<u64> {
-        self.lend(Export::Bootstrap, call, |state, rows, segments| {
-            port::bootstrap(state, rows, segments, piece)
-        })
+    /// The same call with something amiss; `rules` is what it answered.
+    fn try_bootstrap(&mut self, book: &Book, lent: &Lent, piece: &[u8], rules: u64) {
+        let trial = Trial::new(Export::Bootstrap.name(), &book.block, &mut self.random);
+        let given = Given::new(trial.state(), Some(book.memory(lent, trial.extent)));
+        if let Some(number) = trial.expected(&given, rules, &mut self.cases) {
+            book.turns_away(lent, &trial, number, |state, rows, segments| {
+                port::bootstrap(state, rows, segments, piece)
+            });
+        }
     }
 
     /// The words of a message, at times in another form.
@@ -142,26 +168,38 @@ impl Ported {
 
     fn apply(&mut self, call: &Call, message: &Message) -> Option<Reply> {
         let words = self.message_form(Export::Apply, message);
-        if self.random.chance(SHORT_PERCENT) {
-            let short = &words[..self.random.pick(&[0, port::MESSAGE_WORDS - 1])];
-            let book = self.books.get_mut(&call.book)?;
-            book.refuses_short(&call.lent, port::BLOCK_WORDS, |state, rows, segments| {
-                port::apply(state, rows, segments, short)
-            });
-            self.cases.add("apply", "message short");
-        }
+        let trial = self.book_for_trial(call, TRIAL_PERCENT)?;
         self.begin_run(call)?;
         let answer = self.lend(Export::Apply, call, |state, rows, segments| {
             port::apply(state, rows, segments, &words)
         })?;
+        if let Some(book) = trial {
+            self.try_apply(&book, &call.lent, words.clone(), answer);
+        }
         self.note_message(call, &words, answer)?;
         Some(applied(answer, self.books[&call.book].status()))
+    }
+
+    /// The same call with something amiss; `rules` is what it answered.
+    fn try_apply(&mut self, book: &Book, lent: &Lent, mut message: Vec<u64>, rules: u64) {
+        let mut trial = Trial::new(Export::Apply.name(), &book.block, &mut self.random);
+        amiss::message(&mut message, &mut trial, &mut self.random);
+        let given = Given {
+            message: Some(&message),
+            ..Given::new(trial.state(), Some(book.memory(lent, trial.extent)))
+        };
+        if let Some(number) = trial.expected(&given, rules, &mut self.cases) {
+            book.turns_away(lent, &trial, number, |state, rows, segments| {
+                port::apply(state, rows, segments, &message)
+            });
+        }
     }
 
     /// None if a slot that the call names is empty.
     fn reply(&mut self, call: &Call) -> Option<Reply> {
         if let Act::Create { .. } = call.act {
-            self.books.insert(call.book, Book::create(&call.act)?);
+            let book = Book::create(&call.act, &mut self.random, &mut self.cases)?;
+            self.books.insert(call.book, book);
             return Some(Reply::new(0, Values::Nothing));
         }
         if let Some(book) = self.books.get_mut(&call.book)
@@ -170,8 +208,8 @@ impl Ported {
             forms::scatter(&mut book.block, &mut self.random);
         }
         if reads::asks(&call.act) {
-            let turn = self.random.word();
-            return self.reads.reply(&self.books, call, turn, &mut self.cases);
+            let (random, cases) = (&mut self.random, &mut self.cases);
+            return self.reads.reply(&self.books, call, random, cases);
         }
         match &call.act {
             Act::ReadMessage { piece } => Some(read_message(piece)),
@@ -199,9 +237,14 @@ impl Ported {
                 piece,
                 buffer,
             } => self.bootstrap_with_buffer(call, *slot, piece, buffer),
-            Act::Manifest => Some(Reply::new(0, self.books[&call.book].manifest(&call.lent))),
+            Act::Manifest => {
+                let (book, lent) = (&self.books[&call.book], &call.lent);
+                let values = book.manifest(lent, &mut self.random, &mut self.cases);
+                Some(Reply::new(0, values))
+            }
             Act::Invalidation => {
-                let why = self.books[&call.book].invalidation();
+                let book = &self.books[&call.book];
+                let why = book.invalidation(&mut self.random, &mut self.cases);
                 Some(Reply::new(0, Values::InForce(why)))
             }
             act => {

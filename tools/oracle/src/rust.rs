@@ -162,16 +162,11 @@ impl Rust {
             return Answer::NoWord;
         };
         let reply = match &call.act {
-            Act::Handshake { slot } => match host.handshake() {
-                None => {
-                    self.books.insert(call.book, Slot::Known(host));
-                    return Answer::Absent;
-                }
-                Some(handshake) => {
-                    self.handshakes.insert(*slot, Slot::Known(handshake));
-                    Some(Reply::new(0, Voice::Runner, Values::Handshake(handshake)))
-                }
-            },
+            Act::Handshake { slot } => {
+                let handshake = host.handshake();
+                self.handshakes.insert(*slot, Slot::Known(handshake));
+                Some(Reply::new(0, Voice::Runner, Values::Handshake(handshake)))
+            }
             Act::Step { slot, piece } => match self.handshakes.get_mut(slot) {
                 Some(Slot::Known(handshake)) => Some(step(&mut host, handshake, &call.lent, piece)),
                 _ => return Answer::NoWord,

@@ -59,21 +59,24 @@ fn order(id: u128, price: i64, size: i64) -> SnapshotOrder {
     SnapshotOrder { id, price, size }
 }
 
-/// A book as a host keeps it: state words, rows for three orders, one segment record.
+/// The most orders and levels of the board's book.
+const ORDERS: usize = 3;
+
+/// A book as a host keeps it: state words, rows for its orders, one segment record.
 struct Board {
     state: [u64; port::BLOCK_WORDS],
-    rows: [u64; 24],
+    rows: [u64; ORDERS * 8],
     segments: [u64; 8],
 }
 
 impl Board {
     fn new() -> Board {
-        let half = |at: usize| u64::from_be_bytes(std::array::from_fn(|i| PRODUCT[at + i]));
         let mut state = [0; port::BLOCK_WORDS];
-        (state[0], state[1]) = (half(0), half(8));
-        // At most three orders and three levels; the reconstructor's number is 1.
-        (state[3], state[4], state[5]) = (3, 3, 1);
-        let (rows, segments) = ([0; 24], [0; 8]);
+        let (product, keeps_priority, number) = (u128::from_be_bytes(PRODUCT), 0, 1);
+        let limits = (ORDERS as u64, ORDERS as u64);
+        let made = port::new(&mut state, product, keeps_priority, limits, number);
+        assert_eq!(made, 0, "a rule and words enough");
+        let (rows, segments) = ([0; ORDERS * 8], [0; 8]);
         Board {
             state,
             rows,

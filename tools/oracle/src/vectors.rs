@@ -21,8 +21,8 @@ use crate::model::Model;
 use crate::piece::{Product, decode_message};
 use record::Record;
 
-/// With this seed so few calls meet every number of 01's table twice.
-const SEED: u64 = 57;
+/// With this seed so few calls meet every number of 01's table twice, and steps of a handshake made before any snapshot.
+const SEED: u64 = 4550;
 const CALLS: u64 = 3_000;
 /// The program's memory, in words; of segments in records.
 const ROWS: u64 = 2_048;

@@ -82,7 +82,7 @@ const SIZES: [(&str, u64, u64); 10] = [
     ("4096", 4_096, 4_096),
 ];
 
-const SPECIALS: [&str; 49] = [
+const SPECIALS: [&str; 50] = [
     "4096 orders by a snapshot",
     "4096 orders by opens",
     "open refused at 4096 orders",
@@ -104,6 +104,7 @@ const SPECIALS: [&str; 49] = [
     "step of another product passes by",
     "step ends by 16",
     "step ends by 17",
+    "handshake before any snapshot",
     "9 of an ended handshake",
     "9 of another segment",
     "9 before any snapshot",
@@ -523,8 +524,12 @@ impl Coverage {
                 self.buffer(*slot, buffer, before, said);
             }
             (Act::Handshake { slot }, 0) => {
+                let ended = matches!(said.values, Values::Handshake(made) if made.ended);
+                if ended {
+                    self.special("handshake before any snapshot");
+                }
                 self.buffered.remove(slot);
-                self.living.insert(*slot, true);
+                self.living.insert(*slot, !ended);
                 self.forged.insert(*slot, false);
             }
             (Act::ForgeHandshake { slot, handshake }, _) => {

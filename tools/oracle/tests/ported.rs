@@ -1,5 +1,5 @@
-//! Every call of the port beside the Rust and the model, and each run of messages replayed beside single calls. Built with the feature
-//! `port` only; SEED, STREAMS and CALLS give another run.
+//! Every call of the port beside the Rust and the model, trials with something amiss, and each run of messages replayed beside single calls.
+//! Built with the feature `port` only; SEED, STREAMS and CALLS give another run.
 //!
 //! A call costs as much as its book is large, and a stream's books grow. So most calls are made in short streams, and one long
 //! stream fills a book to the ceiling.

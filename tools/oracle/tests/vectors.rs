@@ -31,6 +31,12 @@ fn check_files(sample: &Sample) {
     }
 }
 
+/// Whether a line is of a handshake made before any snapshot: of place 0, ended, nothing applied.
+fn is_early_handshake(line: &str) -> bool {
+    let words: Vec<&str> = line.split(' ').collect();
+    matches!(words[..], [_, "handshake", "0", _, "0", "1", "0"])
+}
+
 #[test]
 fn the_sample_is_the_committed_one_and_meets_every_number() {
     let sample = vectors::sample();
@@ -50,5 +56,7 @@ fn the_sample_is_the_committed_one_and_meets_every_number() {
     assert!(missing.is_empty(), "numbers not met: {missing:?}");
     assert_eq!(sample.names.len(), 20, "every kind of call");
     assert_eq!(sample.output.lines().count() as u64, sample.calls);
+    let early = sample.output.lines().any(is_early_handshake);
+    assert!(early, "a handshake before any snapshot");
     check_files(&sample);
 }

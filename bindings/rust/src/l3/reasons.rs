@@ -176,6 +176,7 @@ pub fn snapshot_error(
         sys::SNAPSHOT_CAPACITY_EXCEEDED => {
             SnapshotError::CapacityExceeded(above(orders.count(), rules))
         }
+        sys::NOT_A_PIECE => SnapshotError::Refused(Refusal::NotAPiece),
         _ => SnapshotError::Refused(Refusal::of(number)),
     }
 }

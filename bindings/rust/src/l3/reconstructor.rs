@@ -15,9 +15,8 @@ use crate::sys::{
     INVALIDATION_FIRST, INVALIDATION_FIRST_OFFENDING_SEQ, INVALIDATION_LAST_GOOD_SEQ,
     INVALIDATION_REASON, INVALIDATION_SECOND, INVALIDATION_WORDS, MESSAGE_WORDS, RECORD_WORDS,
     ROW_WORDS, SEGMENT_END, SEGMENT_FIRST_US, SEGMENT_LAST_GOOD_SEQ, SEGMENT_LAST_US,
-    SEGMENT_START_SEQ, SEGMENT_WORDS, STATE_MAX_LEVELS, STATE_MAX_ORDERS, STATE_NUMBER,
-    STATE_PRODUCT_HIGH, STATE_PRODUCT_LOW, STATE_RECEIVED, STATE_ROWS, STATE_SEGMENTS,
-    STATE_SIZE_DECREASE, STATE_WORDS,
+    SEGMENT_START_SEQ, SEGMENT_WORDS, STATE_NUMBER, STATE_RECEIVED, STATE_ROWS, STATE_SEGMENTS,
+    STATE_WORDS,
 };
 
 pub use errors::{
@@ -50,6 +49,28 @@ static NEXT_NUMBER: AtomicU64 = AtomicU64::new(1);
 
 fn next_number() -> u64 {
     NEXT_NUMBER.fetch_add(1, Ordering::Relaxed)
+}
+
+/// The state of a book without a snapshot.
+fn new_state([product_high, product_low]: [u64; 2], rules: VenueRules) -> [u64; STATE_WORDS] {
+    let mut state = [0; STATE_WORDS];
+    let number = sys::new(
+        &mut state,
+        product_high,
+        product_low,
+        u64::from(rules.size_decrease == SizeDecrease::PriorityUnknown),
+        rules.max_orders as u64,
+        rules.max_levels as u64,
+        next_number(),
+    );
+    sure(number);
+    state
+}
+
+/// Sees that a call succeeded that cannot do otherwise: its words are a value's, and every slice of a fixed size has that size, so that 768, 4 and 7 are
+/// faults of this crate.
+fn sure(number: u64) {
+    assert_eq!(number, 0, "the library turned away words of this crate");
 }
 
 impl Clone for BookReconstructor {
@@ -86,16 +107,9 @@ impl BookReconstructor {
     pub fn new(product_id: impl Into<String>, rules: VenueRules) -> Self {
         let product_id = product_id.into();
         let product = words::product_words(&product_id);
-        let mut state = [0; STATE_WORDS];
-        [state[STATE_PRODUCT_HIGH], state[STATE_PRODUCT_LOW]] = product.unwrap_or_default();
-        state[STATE_SIZE_DECREASE] =
-            u64::from(rules.size_decrease == SizeDecrease::PriorityUnknown);
-        state[STATE_MAX_ORDERS] = rules.max_orders as u64;
-        state[STATE_MAX_LEVELS] = rules.max_levels as u64;
-        state[STATE_NUMBER] = next_number();
         Self {
             product,
-            state,
+            state: new_state(product.unwrap_or_default(), rules),
             rows: vec![0; ROW_WORDS * rules.max_orders.min(CEILING)],
             segments: Vec::new(),
             manifest: QualityManifest {
@@ -173,7 +187,7 @@ impl BookReconstructor {
     ) -> Result<usize, HandshakeError> {
         self.bootstrap(snapshot).map_err(HandshakeError::Snapshot)?;
         let mut handshake = [0; HANDSHAKE_WORDS];
-        sys::handshake(&self.state, &mut handshake);
+        sure(sys::handshake(&self.state, &mut handshake));
         for message in buffered {
             match self.step(&mut handshake, message) {
                 Ok(()) | Err(ApplyError::WrongProduct { .. }) => {}
@@ -255,7 +269,7 @@ impl BookReconstructor {
     /// The invalidation that the state holds, which `message` caused.
     fn why(&self, message: &L3Message) -> Invalidation {
         let mut words = [0; INVALIDATION_WORDS];
-        sys::invalidation(&self.state, &mut words);
+        sure(sys::invalidation(&self.state, &mut words));
         let (first, second) = (words[INVALIDATION_FIRST], words[INVALIDATION_SECOND]);
         let met = Met {
             rows: self.rows_in_use(),
@@ -299,8 +313,11 @@ impl BookReconstructor {
     fn segment_words(&self, place: usize) -> Option<[u64; RECORD_WORDS]> {
         let mut record = [0; RECORD_WORDS];
         match sys::segment(&self.state, &self.segments, place, &mut record) {
-            0 => Some(record),
-            _ => None,
+            sys::NO_RECORD => None,
+            number => {
+                sure(number);
+                Some(record)
+            }
         }
     }
 

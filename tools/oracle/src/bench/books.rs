@@ -10,6 +10,8 @@ use crate::rust::convert;
 
 pub const PRODUCT: [u8; 16] = [0; 16];
 pub const SIZE: i64 = 1_000_000_000;
+/// The word of these rules' size_decrease.
+const KEEPS_PRIORITY: u64 = 0;
 pub const RULES: Rules = Rules {
     size_decrease: SizeDecrease::KeepsPriority,
     max_orders: 4_096,
@@ -27,7 +29,11 @@ impl Ours {
     /// Without a snapshot.
     pub fn fresh() -> Ours {
         let mut block = [0; port::BLOCK_WORDS];
-        (block[3], block[4]) = (RULES.max_orders, RULES.max_levels);
+        let (product, limits) = (
+            u128::from_be_bytes(PRODUCT),
+            (RULES.max_orders, RULES.max_levels),
+        );
+        assert_eq!(port::new(&mut block, product, KEEPS_PRIORITY, limits, 0), 0);
         let (rows, segments) = (vec![0; 8 * 4_096], vec![0; 8 * 4]);
         Ours {
             block,

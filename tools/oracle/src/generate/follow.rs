@@ -75,7 +75,7 @@ impl Generator {
             self.handshakes[usize::from(at)] = Some(Shaken {
                 book: slot,
                 segment: book.current_segment(),
-                alive: true,
+                alive: book.segments > 0,
                 wordless,
             });
         }

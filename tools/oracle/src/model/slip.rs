@@ -200,6 +200,8 @@ slips! {
     SnapshotClearsMemory,
 
     // Handshake steps.
+    /// A handshake made before any snapshot has not ended.
+    EarlyHandshakeAlive,
     HandshakeEndIgnored,
     /// 9 is not said for another segment.
     HandshakeOfAnySegment,

@@ -546,6 +546,29 @@ fn steps_of_a_handshake() {
     assert_eq!((step(100), step(103), step(100)), (0, 17, 9));
 }
 
+/// A handshake made before any snapshot has ended: every step of it is 9, after a snapshot too.
+#[test]
+fn a_handshake_without_a_segment() {
+    let mut host = Host::fresh(3, 3);
+    let said = host.call(Act::Handshake { slot: 0 });
+    let name = SegmentName {
+        number: 1,
+        place: 0,
+    };
+    let ended = Handshake {
+        segment: name,
+        start_seq: 0,
+        applied: 0,
+        ended: true,
+    };
+    assert_eq!((said.number, said.values), (0, Values::Handshake(ended)));
+    let piece = encode_message(&message(P, 101, received()));
+    let step = Act::Step { slot: 0, piece };
+    assert_eq!(host.call(step.clone()).number, 9);
+    assert_eq!(host.bootstrap(&snapshot_e(100)), 0);
+    assert_eq!(host.call(step).number, 9);
+}
+
 /// Row memory word by word: what stood past the last row at creation stays there until a row is written over it.
 #[test]
 fn rows_in_memory() {

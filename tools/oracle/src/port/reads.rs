@@ -1,14 +1,24 @@
-//! The reads and estimates that crate `host` exports. A side is a word, 0 buy, else sell; an amount is its two's-complement word.
-//! The answer is 0 or 01's number; 7 also where a slice of a fixed size is shorter than that, and then nothing is touched.
+//! The reads and estimates that crate `host` exports. A side is a word, 0 buy or 1 sell; an amount is its two's-complement word.
+//! The answer is 0, a number of 01, [`NO_STALE`] or [`super::SHORT_INPUT`].
 
 use super::{lend, sys};
 
-/// The words of a best pair, of an estimate and of a volume ahead; one word counts the entries of a level read.
+/// The words of an order in an ahead-list.
+pub use sys::AHEAD_WORDS as LISTED_WORDS;
+/// The words of a best pair, of the number of entries of a level read, of an estimate, of a last sequence.
 pub use sys::BEST_WORDS;
+pub use sys::COUNT_WORDS;
 pub use sys::ESTIMATE_WORDS;
+/// The words of an invalidation.
+pub use sys::INVALIDATION_WORDS;
+/// The words of an entry of each level read.
+pub use sys::L2_WORDS;
+pub use sys::LAST_SEQUENCE_WORDS as LAST_WORDS;
 /// The answer of `stale_l2` and `invalidation` where the book is not invalid, and of `segment` where there is no record.
 pub use sys::NOT_STALE as NO_STALE;
-/// The words of a segment's record.
+pub use sys::PROFILE_WORDS;
+pub use sys::QUEUE_WORDS;
+/// The words of a segment's record, and of a volume ahead.
 pub use sys::RECORD_WORDS;
 pub use sys::VOLUME_WORDS as AHEAD_WORDS;
 

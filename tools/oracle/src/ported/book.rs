@@ -1,21 +1,53 @@
 //! A book as a host keeps it: the state in a block of words, the rows, the segment records, and guard words behind each.
 
-use super::forms;
+use super::amiss;
+use super::boundary;
+use super::cases::Cases;
+use super::states::Asked;
+use super::trials::Trial;
 use crate::call::{
-    Act, Counts, Field, Invalidation, Lent, Memory, Rules, Segment, SegmentEnd, SizeDecrease,
-    State, Status, Values, digest_segments, digest_words, fresh_rows, fresh_segments,
+    Act, CEILING, Counts, Field, Invalidation, Lent, Memory, Rules, Segment, SegmentEnd,
+    SizeDecrease, State, Status, Values, digest_segments, digest_words, fresh_rows, fresh_segments,
 };
+use crate::generate::random::Random;
 use crate::piece::Product;
 use crate::port;
 
-const RECORD: usize = 8;
-const ROW: usize = 8;
+/// The words of a segment record and of a row.
+pub const RECORD: usize = 8;
+pub const ROW: usize = 8;
 /// Stand behind each memory, and must stay.
 pub const GUARDS: usize = 4;
 pub const GUARD: u64 = 0xA5A5_5A5A_DEAD_BEEF;
 
+/// How often a call that comes seldom is made with something amiss.
+pub const RARE_TRIALS: u64 = 4;
+
 /// A state's words, and guards.
 pub type Block = [u64; port::BLOCK_WORDS + GUARDS];
+
+/// How many words of the block are lent, and how many behind the last record that is: they are none.
+#[derive(Clone, Copy)]
+pub struct Extent {
+    pub state: usize,
+    part: usize,
+}
+
+impl Extent {
+    pub const EXACT: Extent = Extent {
+        state: port::BLOCK_WORDS,
+        part: 0,
+    };
+
+    /// Exact or longer.
+    pub fn drawn(random: &mut Random) -> Extent {
+        let mut more = || random.below(GUARDS as u64 + 1) as usize;
+        Extent {
+            state: port::BLOCK_WORDS + more(),
+            part: more(),
+        }
+    }
+}
 
 #[derive(Clone)]
 pub struct Book {
@@ -39,6 +71,7 @@ pub mod at {
     pub const OFFENDING: usize = 8;
     pub const KIND: usize = 9;
     pub const FIRST: usize = 10;
+    pub const SECOND: usize = 11;
     pub const DETAIL: usize = 12;
     pub const ROWS: usize = 13;
     pub const SEGMENTS: usize = 14;
@@ -68,24 +101,6 @@ fn record_words(segment: &Segment) -> [u64; RECORD] {
         first,
         last,
     ]
-}
-
-/// What `read` writes into `N` words, if it answers 0. Lent one word fewer it must answer 7; any answer but 0 must leave the words; guards stay.
-fn written<const N: usize>(read: impl Fn(&mut [u64]) -> u64) -> Option<[u64; N]> {
-    let mut out = [GUARD; 16];
-    assert_eq!(read(&mut out[..N - 1]), 7, "one word too few");
-    assert_eq!(out, [GUARD; 16], "words of a refusal");
-    let answer = read(&mut out[..N]);
-    assert_eq!(out[N..], [GUARD; 16][N..], "words past the output");
-    if answer != 0 {
-        assert_eq!(
-            (answer, out),
-            (port::reads::NO_STALE, [GUARD; 16]),
-            "nothing to write"
-        );
-        return None;
-    }
-    out[..N].try_into().ok()
 }
 
 fn record_of(words: &[u64]) -> Segment {
@@ -135,7 +150,8 @@ pub enum Effect {
 }
 
 impl Book {
-    pub fn create(act: &Act) -> Option<Book> {
+    /// The state is the library's; the host's memory is as the act fills it.
+    pub fn create(act: &Act, random: &mut Random, cases: &mut Cases) -> Option<Book> {
         let &Act::Create {
             ref product,
             rules,
@@ -153,8 +169,13 @@ impl Book {
         let records = fresh_segments(segment_fill, segment_records);
         let mut segments: Vec<u64> = records.iter().flat_map(record_words).collect();
         segments.extend([GUARD; GUARDS]);
+        let new = New {
+            product: *product,
+            rules,
+            number,
+        };
         Some(Book {
-            block: fresh_block(product, &rules, number),
+            block: new.block(random, cases),
             rows,
             segments,
             last_sequence: 0,
@@ -166,21 +187,25 @@ impl Book {
         (self.rows.len() - GUARDS).min(lent.rows as usize)
     }
 
+    /// In words.
+    fn lent_segments(&self, lent: &Lent) -> usize {
+        let records = (self.segments.len() - GUARDS) / RECORD;
+        RECORD * records.min(lent.segments as usize)
+    }
+
     /// Calls `function` with the first words of the block and the lent prefixes, and sees that the guards stand.
     pub fn lend(
         &mut self,
         lent: &Lent,
-        state: usize,
+        extent: Extent,
         function: impl FnOnce(&mut [u64], &mut [u64], &mut [u64]) -> u64,
     ) -> u64 {
         self.last_shown = None;
-        let rows = self.lent_rows(lent);
-        let records = (self.segments.len() - GUARDS) / RECORD;
-        let segments = RECORD * records.min(lent.segments as usize);
+        let (rows, segments) = (self.lent_rows(lent), self.lent_segments(lent));
         let answer = function(
-            &mut self.block[..state],
+            &mut self.block[..extent.state],
             &mut self.rows[..rows],
-            &mut self.segments[..segments],
+            &mut self.segments[..segments + extent.part],
         );
         for memory in [&self.block[..], &self.rows, &self.segments] {
             assert!(
@@ -194,16 +219,29 @@ impl Book {
         answer
     }
 
-    /// Calls `function`, which is lent a slice of a fixed size short, and sees that it answers 7 and touches nothing.
-    pub fn refuses_short(
-        &mut self,
+    /// Sees that `function`, lent the trial's state and a copy of the memory, answers `number` and touches nothing.
+    pub fn turns_away(
+        &self,
         lent: &Lent,
-        state: usize,
+        trial: &Trial,
+        number: u64,
         function: impl FnOnce(&mut [u64], &mut [u64], &mut [u64]) -> u64,
     ) {
-        let before = self.clone();
-        assert_eq!(self.lend(lent, state, function), 7, "a slice is short");
-        self.check_same(&before, "a short slice");
+        let mut copy = self.clone();
+        copy.block = trial.block;
+        assert_eq!(copy.lend(lent, trial.extent, function), number, "a trial");
+        assert_eq!(copy.block, trial.block, "the block after a trial");
+        copy.block = self.block;
+        copy.check_same(self, "a trial");
+    }
+
+    /// What a call that changes a book is lent of the memory.
+    pub fn memory(&self, lent: &Lent, extent: Extent) -> boundary::Memory {
+        boundary::Memory {
+            rows: self.lent_rows(lent),
+            segments: Some(self.lent_segments(lent) + extent.part),
+            scratch: None,
+        }
     }
 
     /// Sees that every word is the other's.
@@ -239,12 +277,8 @@ impl Book {
             _ => Status::Invalid(Invalidation {
                 last_good_seq: self.block[at::LAST],
                 first_offending_seq: self.block[at::OFFENDING],
-                reason: if forms::names_reason(reason) {
-                    reason as u8
-                } else {
-                    44
-                },
-                funds: reason == 38 && self.block[at::DETAIL] != 0,
+                reason: reason as u8,
+                funds: reason == 38 && self.block[at::DETAIL] == 1,
             }),
         }
     }
@@ -323,11 +357,11 @@ impl Book {
 }
 
 impl Book {
-    /// Calls `function` with the block, its guards included, and the lent rows. It may only read: the whole memory is compared.
-    pub fn read(&self, lent: &Lent, function: impl FnOnce(&[u64], &[u64]) -> u64) -> u64 {
+    /// Calls `function` with the lent rows. It may only read: the whole memory is compared.
+    pub fn read(&self, lent: &Lent, function: impl FnOnce(&[u64]) -> u64) -> u64 {
         let memories = [&self.block[..], &self.rows, &self.segments];
         let before = memories.map(Kept::of);
-        let answer = function(&self.block, &self.rows[..self.lent_rows(lent)]);
+        let answer = function(&self.rows[..self.lent_rows(lent)]);
         for (before, memory) in before.iter().zip(memories) {
             assert!(before.holds(memory), "a read wrote into the book");
         }
@@ -354,25 +388,48 @@ impl Book {
     }
 
     /// The invalidation in force, as the library writes it.
-    pub fn invalidation(&self) -> Option<Invalidation> {
-        let state = &self.block[..port::BLOCK_WORDS];
-        let words = written(|out| port::reads::invalidation(state, out))?;
-        let [last_good_seq, first_offending_seq, reason, _, _, detail] = words;
+    pub fn invalidation(&self, random: &mut Random, cases: &mut Cases) -> Option<Invalidation> {
+        let asked = Asked {
+            call: "invalidation",
+            block: &self.block,
+            trials: RARE_TRIALS,
+        };
+        let words: [u64; port::reads::INVALIDATION_WORDS] =
+            asked.written(random, cases, port::reads::invalidation)?;
+        let [last_good_seq, first_offending_seq, reason, more @ ..] = words;
+        // What the reason does not hold is 0, whatever the state has there.
+        let held = match reason {
+            20 | 21 => [self.block[at::FIRST], self.block[at::SECOND], 0],
+            38 => [0, 0, self.block[at::DETAIL]],
+            _ => [0; 3],
+        };
+        assert_eq!(more, held, "what the reason {reason} holds");
         Some(Invalidation {
             last_good_seq,
             first_offending_seq,
             reason: reason as u8,
-            funds: detail == 1,
+            funds: more[2] == 1,
         })
     }
 
     /// The record at a place of the lent list, as the library writes it.
-    fn segment(&self, lent: &Lent, place: usize) -> Option<Segment> {
-        let records = (self.segments.len() - GUARDS) / RECORD;
-        let list = &self.segments[..RECORD * records.min(lent.segments as usize)];
-        let state = &self.block[..port::BLOCK_WORDS];
+    fn segment(
+        &self,
+        lent: &Lent,
+        place: usize,
+        (random, cases): (&mut Random, &mut Cases),
+    ) -> Option<Segment> {
+        let part = Extent::drawn(random).part;
+        let list = &self.segments[..self.lent_segments(lent) + part];
+        let asked = Asked {
+            call: "segment",
+            block: &self.block,
+            trials: RARE_TRIALS,
+        };
         let words: [u64; port::reads::RECORD_WORDS] =
-            written(|out| port::reads::segment(state, list, place, out))?;
+            asked.written(random, cases, |state, out| {
+                port::reads::segment(state, list, place, out)
+            })?;
         let [start, good, .., first, last, elapsed, accepted] = words;
         let computed = (last.saturating_sub(first), good.saturating_sub(start));
         assert_eq!((elapsed, accepted), computed, "elapsed time and messages");
@@ -380,7 +437,7 @@ impl Book {
     }
 
     /// What the words say of the book, and the records below both the segment count and the lent length.
-    pub fn manifest(&self, lent: &Lent) -> Values {
+    pub fn manifest(&self, lent: &Lent, random: &mut Random, cases: &mut Cases) -> Values {
         let product = u128::from(self.block[0]) << 64 | u128::from(self.block[1]);
         Values::Manifest {
             product: product.to_be_bytes(),
@@ -394,7 +451,9 @@ impl Book {
             },
             number: self.number(),
             counts: self.counts(),
-            segments: (0..).map_while(|place| self.segment(lent, place)).collect(),
+            segments: (0..)
+                .map_while(|place| self.segment(lent, place, (&mut *random, &mut *cases)))
+                .collect(),
         }
     }
 
@@ -404,6 +463,13 @@ impl Book {
             *counts.slot(index) = self.block[at::COUNTS + index];
         }
         counts
+    }
+
+    /// Whether the limits and the lent memory pass 1 and 2.
+    pub fn fits(&self, lent: &Lent) -> bool {
+        let within = self.max_orders().max(self.block[at::MAX_LEVELS]) <= CEILING;
+        let records = (self.lent_segments(lent) / RECORD) as u64;
+        within && self.rows_suffice(lent) && records >= self.segments()
     }
 
     /// Whether as many rows are lent as number 2 asks for.
@@ -434,13 +500,67 @@ impl Kept {
     }
 }
 
-fn fresh_block(product: &Product, rules: &Rules, number: u64) -> Block {
-    let mut block = [0; port::BLOCK_WORDS + GUARDS];
-    block[port::BLOCK_WORDS..].fill(GUARD);
-    let product = u128::from_be_bytes(*product);
-    (block[0], block[1]) = ((product >> 64) as u64, product as u64);
-    block[at::DECREASE] = u64::from(rules.size_decrease == SizeDecrease::PriorityUnknown);
-    (block[3], block[4]) = (rules.max_orders, rules.max_levels);
-    block[5] = number;
-    block
+/// A book to be made.
+struct New {
+    product: Product,
+    rules: Rules,
+    number: u64,
+}
+
+impl New {
+    /// The words that its state is to have.
+    fn words(&self) -> [u64; port::BLOCK_WORDS] {
+        let product = u128::from_be_bytes(self.product);
+        let mut words = [0; port::BLOCK_WORDS];
+        (words[0], words[1]) = ((product >> 64) as u64, product as u64);
+        words[at::DECREASE] = self.decrease();
+        words[at::MAX_ORDERS] = self.rules.max_orders;
+        words[at::MAX_LEVELS] = self.rules.max_levels;
+        words[at::NUMBER] = self.number;
+        words
+    }
+
+    fn decrease(&self) -> u64 {
+        u64::from(self.rules.size_decrease == SizeDecrease::PriorityUnknown)
+    }
+
+    fn make(&self, state: &mut [u64], decrease: u64) -> u64 {
+        let limits = (self.rules.max_orders, self.rules.max_levels);
+        let product = u128::from_be_bytes(self.product);
+        port::new(state, product, decrease, limits, self.number)
+    }
+
+    /// The state that the library writes over any words, with guards behind it.
+    fn block(&self, random: &mut Random, cases: &mut Cases) -> Block {
+        let mut block = [GUARD; port::BLOCK_WORDS + GUARDS];
+        block[..port::BLOCK_WORDS].fill_with(|| random.word());
+        self.amiss(&block, random, cases);
+        let words = port::BLOCK_WORDS + random.below(GUARDS as u64 + 1) as usize;
+        assert_eq!(self.make(&mut block[..words], self.decrease()), 0, "new");
+        let (state, guards) = block.split_at(port::BLOCK_WORDS);
+        assert_eq!(state, self.words(), "a new state");
+        assert_eq!(guards, [GUARD; GUARDS], "words past a new state");
+        block
+    }
+
+    /// A rule of no value is told before words that are too few.
+    fn amiss(&self, fresh: &Block, random: &mut Random, cases: &mut Cases) {
+        let (mut words, mut decrease) = (port::BLOCK_WORDS, self.decrease());
+        let mut numbers = Vec::new();
+        if amiss::drawn(random) {
+            decrease = amiss::above(1, random);
+            numbers.push(boundary::NO_VALUE);
+        }
+        if amiss::drawn(random) {
+            words = amiss::short(port::BLOCK_WORDS, random);
+            numbers.push(boundary::OUTPUT_TOO_SMALL);
+        }
+        let Some(&number) = numbers.first() else {
+            return;
+        };
+        let mut block = *fresh;
+        let answer = self.make(&mut block[..words], decrease);
+        assert_eq!((answer, block), (number, *fresh), "a trial of new");
+        cases.order("new", &numbers);
+    }
 }

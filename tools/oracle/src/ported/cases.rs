@@ -2,71 +2,139 @@
 
 use std::collections::{BTreeMap, BTreeSet, HashMap};
 
-use super::book::Book;
+use super::amiss;
+use super::book::{Block, Book, at};
 use super::forms;
+use super::orders;
 use super::reads::{Held, entry_words};
 use crate::call::{Act, Anchor, Assumption, CEILING, Estimate, Lent, Values};
 use crate::piece::{Id, Side};
 use crate::port;
 
-/// How often each case of each call was met.
+/// How often each case of each call was met, and how often a call said a number where another held beside it.
 #[derive(Debug, Default)]
-pub struct Cases(BTreeMap<(&'static str, &'static str), u64>);
+pub struct Cases {
+    met: BTreeMap<(&'static str, &'static str), u64>,
+    orders: BTreeMap<(&'static str, u64, u64), u64>,
+    /// Calls made with something amiss.
+    trials: u64,
+    /// The reasons of the invalid books that were called on.
+    reasons: BTreeMap<(u64, u64), u64>,
+}
 
-impl Cases {
-    pub fn add(&mut self, read: &'static str, case: &'static str) {
-        *self.0.entry((read, case)).or_default() += 1;
-    }
-
-    pub fn times(&self, call: &'static str, case: &'static str) -> u64 {
-        self.0.get(&(call, case)).copied().unwrap_or(0)
-    }
-
-    pub fn merge(&mut self, other: &Cases) {
-        for (&case, &times) in &other.0 {
-            *self.0.entry(case).or_default() += times;
-        }
-    }
-
-    /// Those of [`EXPECTED`], of each of its calls the forms of a state, and of [`BETWEEN`], that were not met.
-    pub fn missing(&self) -> Vec<(&'static str, &'static str)> {
-        let forms = EXPECTED.iter().map(|&(call, _)| (call, forms::COMMON));
-        let between = [("between steps", BETWEEN)];
-        let all = EXPECTED.iter().copied().chain(forms).chain(between);
-        all.flat_map(|(call, cases)| cases.iter().map(move |&case| (call, case)))
-            .filter(|case| !self.0.contains_key(case))
-            .collect()
+fn merge<K: Copy + Ord>(to: &mut BTreeMap<K, u64>, from: &BTreeMap<K, u64>) {
+    for (&case, &times) in from {
+        *to.entry(case).or_default() += times;
     }
 }
 
-/// What every run must meet.
-pub const EXPECTED: &[(&str, &[&str])] = &[
+impl Cases {
+    pub fn add(&mut self, call: &'static str, case: &'static str) {
+        *self.met.entry((call, case)).or_default() += 1;
+    }
+
+    /// Notes the numbers that held for a call, which said the first; 0 stands for none beside it.
+    pub fn order(&mut self, call: &'static str, numbers: &[u64]) {
+        self.trials += 1;
+        let (said, beside) = numbers.split_first().expect("something is amiss");
+        let alone: &[u64] = if beside.is_empty() { &[0] } else { &[] };
+        for &other in beside.iter().chain(alone) {
+            *self.orders.entry((call, *said, other)).or_default() += 1;
+        }
+    }
+
+    /// Notes why the book was invalid, if it was and the call passed 1, 2 and 3.
+    pub fn invalid(&mut self, block: &Block, answer: u64) {
+        if block[at::STATUS] == 2 && !(1..=3).contains(&answer) {
+            let reason = block[at::KIND];
+            let detail = if reason == 38 { block[at::DETAIL] } else { 0 };
+            *self.reasons.entry((reason, detail)).or_default() += 1;
+        }
+    }
+
+    pub fn times(&self, call: &'static str, case: &'static str) -> u64 {
+        self.met.get(&(call, case)).copied().unwrap_or(0)
+    }
+
+    pub fn merge(&mut self, other: &Cases) {
+        merge(&mut self.met, &other.met);
+        merge(&mut self.orders, &other.orders);
+        self.trials += other.trials;
+        merge(&mut self.reasons, &other.reasons);
+    }
+
+    /// What every run must meet, and this one did not.
+    pub fn missing(&self) -> Vec<String> {
+        let met = expected().filter(|case| !self.met.contains_key(case));
+        let orders = orders::expected().filter(|order| !self.orders.contains_key(order));
+        let reasons = REASONS.iter().filter(|why| !self.reasons.contains_key(why));
+        let met = met.map(|(call, case)| format!("{call}: {case}"));
+        let orders = orders.map(|(call, said, other)| format!("{call}: {said} before {other}"));
+        let reasons = reasons.map(|(reason, detail)| format!("invalid by {reason} {detail}"));
+        met.chain(orders).chain(reasons).collect()
+    }
+}
+
+/// The cases that every run must meet: those of each call, of its trials, the forms of its state, and the calls between two steps.
+fn expected() -> impl Iterator<Item = (&'static str, &'static str)> {
+    let calls = EXPECTED.iter().map(|&(call, _)| call);
+    let forms = calls.map(|call| (call, forms::WAYS));
+    let trials = orders::TRIALS.iter();
+    let trials = trials.flat_map(|&(call, parts)| parts.iter().map(move |&part| (call, part)));
+    let lists = EXPECTED.iter().copied().chain(forms).chain(trials);
+    let all = lists.chain([("between steps", BETWEEN)]);
+    let all = all.flat_map(|(call, cases)| cases.iter().map(move |&case| (call, case)));
+    let message = |call| amiss::no_messages().map(move |name| (call, name));
+    all.chain(["apply", "step", "replay"].into_iter().flat_map(message))
+}
+
+/// The reasons that make a book invalid, with the details of 38.
+const REASONS: &[(u64, u64)] = &[
+    (20, 0),
+    (21, 0),
+    (22, 0),
+    (30, 0),
+    (31, 0),
+    (32, 0),
+    (33, 0),
+    (34, 0),
+    (35, 0),
+    (36, 0),
+    (37, 0),
+    (38, 0),
+    (38, 1),
+    (39, 0),
+    (40, 0),
+    (41, 0),
+    (42, 0),
+    (43, 0),
+    (44, 0),
+];
+
+/// What every run must meet of each call.
+const EXPECTED: &[(&str, &[&str])] = &[
     ("apply", APPLY),
     ("bootstrap", BOOTSTRAP),
-    (
-        "handshake",
-        &["state short", "handshake short", "no segment"],
-    ),
+    ("handshake", &["no segment"]),
     ("step", STEP),
     ("replay", REPLAY),
-    ("last_sequence", &["state short", "fixed output short"]),
-    ("best", &["state short", "fixed output short"]),
-    ("audit", &["state short"]),
+    ("last_sequence", &[]),
+    ("best", &[]),
+    ("audit", &[]),
+    ("invalidation", &[]),
+    ("segment", &[]),
     ("level_queue", LEVEL_QUEUE),
     ("priority_profile", LEVELS),
     ("l2", LEVELS),
     ("stale_l2", LEVELS),
     ("stale_l2", &["a sound book"]),
     ("queue_estimate", QUEUE_ESTIMATE),
-    ("queue_estimate_own", &["state short", "fixed output short"]),
+    ("queue_estimate_own", &[]),
     ("volume_ahead", VOLUME_AHEAD),
 ];
 
 const APPLY: &[&str] = &[
-    "state short",
-    "message short",
     "another form of a message",
-    "detail above 1",
     "accepted in another form",
     "invalidated in another form",
     "10 in another form",
@@ -75,9 +143,6 @@ const APPLY: &[&str] = &[
 ];
 
 const STEP: &[&str] = &[
-    "state short",
-    "handshake short",
-    "message short",
     "another form of a message",
     "accepted in another form",
     "invalidated in another form",
@@ -91,8 +156,9 @@ const STEP: &[&str] = &[
     "without effect",
     "applied stops",
     "9 on a fresh book",
+    "9 of one made without a snapshot",
+    "9 of one made before the snapshot",
     "9 of an ended one",
-    "9 of one ended in another form",
     "9 of another segment",
     "10 passes by",
     "16 ends it",
@@ -100,8 +166,6 @@ const STEP: &[&str] = &[
 ];
 
 const REPLAY: &[&str] = &[
-    "state short",
-    "answers short",
     "run",
     "run told 1",
     "run told 2",
@@ -112,6 +176,7 @@ const REPLAY: &[&str] = &[
     "run on a large book",
     "message changes the book",
     "message without effect",
+    "message told 4",
     "message told 5",
     "message told 10",
     "message told 15",
@@ -149,8 +214,6 @@ const BETWEEN: &[&str] = &[
 ];
 
 const BOOTSTRAP: &[&str] = &[
-    "state short",
-    "detail above 1",
     "accepted in another form",
     "10 in another form",
     "11 in another form",
@@ -177,8 +240,6 @@ pub fn outcome(answer: u64) -> &'static str {
 }
 
 const LEVELS: &[&str] = &[
-    "state short",
-    "fixed output short",
     "output one short",
     "output exact",
     "no entry, no output",
@@ -188,8 +249,6 @@ const LEVELS: &[&str] = &[
 ];
 
 const LEVEL_QUEUE: &[&str] = &[
-    "state short",
-    "fixed output short",
     "output one short",
     "output exact",
     "no entry, no output",
@@ -202,8 +261,6 @@ const LEVEL_QUEUE: &[&str] = &[
 ];
 
 const QUEUE_ESTIMATE: &[&str] = &[
-    "state short",
-    "fixed output short",
     "output one short",
     "output exact",
     "no entry, no output",
@@ -214,9 +271,6 @@ const QUEUE_ESTIMATE: &[&str] = &[
 ];
 
 const VOLUME_AHEAD: &[&str] = &[
-    "state short",
-    "estimate short",
-    "fixed output short",
     "of another place",
     "of another number",
     "list one word short",
@@ -279,6 +333,19 @@ fn levels(book: &Book, side: Side) -> u64 {
     there.map(|row| row.price).collect::<BTreeSet<i64>>().len() as u64
 }
 
+/// The entries that a read of this book writes if it is not turned away.
+pub fn entries(book: &Book, act: &Act) -> u64 {
+    match *act {
+        Act::LevelQueue { side, price } | Act::QueueEstimate { side, price, .. } => {
+            at_level(book, side, price)
+        }
+        Act::PriorityProfile { side } | Act::L2 { side } | Act::StaleL2 { side } => {
+            levels(book, side)
+        }
+        _ => 0,
+    }
+}
+
 /// One read, as it was asked and answered.
 pub struct Read<'a> {
     pub book: &'a Book,
@@ -292,28 +359,19 @@ pub struct Read<'a> {
 impl Read<'_> {
     pub fn note(&self, cases: &mut Cases) {
         let mut add = |case: &'static str| cases.add(self.act.name(), case);
+        let entries = entries(self.book, self.act);
         match *self.act {
-            Act::LevelQueue { side, price } => {
-                self.price(at_level(self.book, side, price), price, &mut add);
-                self.lengths(
-                    5,
-                    at_level(self.book, side, price),
-                    self.lent.output,
-                    &mut add,
-                );
+            Act::LevelQueue { price, .. } => {
+                self.price(entries, price, &mut add);
+                self.lengths(5, entries, self.lent.output, &mut add);
             }
-            Act::QueueEstimate { side, price, .. } => {
-                self.price(at_level(self.book, side, price), price, &mut add);
-                self.lengths(
-                    3,
-                    at_level(self.book, side, price),
-                    self.lent.ahead,
-                    &mut add,
-                );
+            Act::QueueEstimate { price, .. } => {
+                self.price(entries, price, &mut add);
+                self.lengths(3, entries, self.lent.ahead, &mut add);
             }
-            Act::PriorityProfile { side } | Act::L2 { side } | Act::StaleL2 { side } => {
+            Act::PriorityProfile { .. } | Act::L2 { .. } | Act::StaleL2 { .. } => {
                 let each = entry_words(self.act).unwrap_or(0) as u64;
-                self.lengths(each, levels(self.book, side), self.lent.output, &mut add);
+                self.lengths(each, entries, self.lent.output, &mut add);
             }
             Act::VolumeAhead { .. } => {
                 if let Some(held) = self.held {

@@ -1,4 +1,5 @@
-//! Words that mean the same. Any words are some state and some message (crate `host_words`, specs/Block.antt), so a host may lend any of them.
+//! Words that mean the same: those of a state or a message that no field names do not matter (crate `host_words`, specs/Block.antt), so a
+//! host may lend anything there.
 
 use std::ops::Range;
 
@@ -20,21 +21,6 @@ fn junk(words: &mut [u64], random: &mut Random) {
     words.fill_with(|| any(random));
 }
 
-/// A word other than those in `not`.
-fn other(not: impl Fn(u64) -> bool, random: &mut Random) -> u64 {
-    loop {
-        let word = any(random);
-        if !not(word) {
-            return word;
-        }
-    }
-}
-
-/// Whether a word is a reason's number, 44 left out: every other word means 44.
-pub fn names_reason(word: u64) -> bool {
-    matches!(word, 20..=22 | 30..=43)
-}
-
 /// The words of the status that mean nothing beside the others.
 fn unused(block: &Block) -> Range<usize> {
     match (block[at::STATUS], block[at::KIND]) {
@@ -48,88 +34,52 @@ fn unused(block: &Block) -> Range<usize> {
 
 /// Draws other words for the same state.
 pub fn scatter(block: &mut Block, random: &mut Random) {
-    if block[at::DECREASE] != 0 {
-        block[at::DECREASE] = other(|word| word == 0, random);
-    }
     let unused = unused(block);
     junk(&mut block[unused], random);
-    if block[at::STATUS] < 2 {
-        return;
-    }
-    block[at::STATUS] = other(|word| word < 2, random);
-    match block[at::KIND] {
-        // What was expected and what came: no exported call tells them.
-        20 | 21 => junk(&mut block[at::FIRST..at::DETAIL], random),
-        38 if block[at::DETAIL] != 0 => block[at::DETAIL] = other(|word| word == 0, random),
-        word if !names_reason(word) => block[at::KIND] = other(names_reason, random),
-        _ => {}
+    if let (2, 20 | 21) = (block[at::STATUS], block[at::KIND]) {
+        // What was expected and what came: `invalidation` alone tells them, and is held to these words.
+        junk(&mut block[at::FIRST..at::DETAIL], random);
     }
 }
 
-/// In which ways these words are not those that a call writes.
-pub fn of(block: &Block) -> impl Iterator<Item = &'static str> {
-    let status = block[at::STATUS];
-    let invalid = status > 1;
+/// In which way these words are not those that a call writes.
+pub fn of(block: &Block) -> Option<&'static str> {
     let junk = block[unused(block)].iter().any(|&word| word != 0);
-    let reason = block[at::KIND];
-    let ways = [
-        (block[at::DECREASE] > 1, "rule above 1"),
-        (status == 0 && junk, "junk without a snapshot"),
-        (status == 1 && junk, "junk in a valid book"),
-        (invalid && junk, "junk in an invalid book"),
-        (status > 2, "status above 2"),
-        (
-            invalid && reason != 44 && !names_reason(reason),
-            "reason of no number",
-        ),
-        (
-            invalid && reason == 38 && block[at::DETAIL] > 1,
-            "detail above 1",
-        ),
-    ];
-    ways.into_iter().filter(|way| way.0).map(|way| way.1)
+    junk.then_some(match block[at::STATUS] {
+        0 => "junk without a snapshot",
+        1 => "junk in a valid book",
+        _ => "junk in an invalid book",
+    })
 }
 
-/// The ways of [`of`] that every call must meet: all but the last, the detail of 38, which is rare.
-pub const COMMON: &[&str] = &[
-    "rule above 1",
+/// The ways of [`of`]: every call must meet each.
+pub const WAYS: &[&str] = &[
     "junk without a snapshot",
     "junk in a valid book",
     "junk in an invalid book",
-    "status above 2",
-    "reason of no number",
 ];
 
-/// Where a message's words have flags (0, else the other), and optional amounts (a flag and the amount), and where its fields end.
-fn fields(kind: u64) -> (&'static [usize], &'static [usize], usize) {
+/// Where a message's words have optional amounts (a flag and the amount), and where its fields end.
+fn fields(kind: u64) -> (&'static [usize], usize) {
     match kind {
-        1 => (&[7], &[], 8),
-        2 => (&[7], &[], 10),
-        3 => (&[7, 10], &[8, 11], 13),
-        4 => (&[9], &[], 12),
-        5 => (&[7, 8], &[9, 11, 13, 15, 17, 19], port::MESSAGE_WORDS),
-        _ => (&[], &[], 6),
+        1 => (&[], 8),
+        2 => (&[], 10),
+        3 => (&[8, 11], 13),
+        4 => (&[], 12),
+        5 => (&[9, 11, 13, 15, 17, 19], port::MESSAGE_WORDS),
+        _ => (&[], 6),
     }
 }
 
 /// Draws other words for the same message, up to four more than it has.
 pub fn scatter_message(words: &mut Vec<u64>, random: &mut Random) {
-    let (flags, optionals, end) = fields(words[0]);
-    for &flag in flags.iter().chain(optionals) {
-        if words[flag] != 0 {
-            words[flag] = other(|word| word == 0, random);
-        }
-    }
+    let (optionals, end) = fields(words[0]);
     for &optional in optionals {
         if words[optional] == 0 {
             words[optional + 1] = any(random);
         }
     }
     junk(&mut words[end..], random);
-    if !(1..=5).contains(&words[0]) {
-        words[0] = other(|word| (1..=5).contains(&word), random);
-        words[5] |= any(random) << 32;
-    }
     for _ in 0..random.below(5) {
         words.push(any(random));
     }

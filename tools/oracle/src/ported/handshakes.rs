@@ -3,7 +3,10 @@
 use std::collections::BTreeSet;
 
 use super::book::{Book, GUARD, GUARDS};
-use super::{Export, Ported, Reply, SHORT_PERCENT, forms, read_message};
+use super::boundary::Given;
+use super::states::Asked;
+use super::trials::{Part, Trial};
+use super::{Export, Ported, READ_TRIAL_PERCENT, Reply, STEP_TRIAL_PERCENT, amiss, read_message};
 use crate::call::{Act, Applied, Call, Handshake, Lent, SegmentName, Status, Stepped, Values};
 use crate::piece::{Message, shape_message};
 use crate::port;
@@ -20,13 +23,12 @@ mod at {
     pub const APPLIED: usize = 3;
 }
 
-/// Words that say that a handshake ended: any but 0.
-const ENDED: [u64; 5] = [1, 2, 1 << 32, 1 << 63, u64::MAX];
-
 pub struct Held {
     words: Words,
     /// What the value claims. The port holds none and no rule looks at it.
     start_seq: u64,
+    /// Whether the library made it of a book without a snapshot.
+    early: bool,
     /// The book of its latest step that 9 did not turn away, and the calls made on that book since.
     stepped: Option<u8>,
     between: BTreeSet<&'static str>,
@@ -37,6 +39,7 @@ impl Held {
         Held {
             words,
             start_seq,
+            early: false,
             stepped: None,
             between: BTreeSet::new(),
         }
@@ -50,7 +53,7 @@ impl Held {
             },
             start_seq: self.start_seq,
             applied: self.words[at::APPLIED],
-            ended: self.words[at::ENDED] != 0,
+            ended: self.words[at::ENDED] == 1,
         }
     }
 
@@ -71,6 +74,7 @@ impl Held {
 /// What a step is about to meet.
 struct Before {
     words: Words,
+    early: bool,
     fresh: bool,
     invalid: bool,
     same_segment: bool,
@@ -82,6 +86,7 @@ impl Before {
         let (number, place) = (book.number(), book.segments().wrapping_sub(1));
         Before {
             words: held.words,
+            early: held.early,
             fresh: book.segments() == 0,
             invalid: matches!(book.status(), Status::Invalid(_)),
             same_segment: segment == SegmentName { number, place },
@@ -90,17 +95,17 @@ impl Before {
 
     /// The case of a step with this answer.
     fn case(&self, answer: u64) -> Option<&'static str> {
-        let ended = self.words[at::ENDED];
         Some(match answer {
             port::DROPPED if self.invalid => "dropped while invalid",
             port::DROPPED => "dropped",
             0 | port::CHANGED if self.words[at::APPLIED] == u64::MAX => "applied stops",
             port::CHANGED => "changed the book",
             0 => "without effect",
+            9 if self.fresh && self.early => "9 of one made without a snapshot",
             9 if self.fresh => "9 on a fresh book",
-            9 if self.same_segment && ended > 1 => "9 of one ended in another form",
+            9 if self.same_segment && self.early => "9 of one made before the snapshot",
             9 if self.same_segment => "9 of an ended one",
-            9 if ended == 0 => "9 of another segment",
+            9 if self.words[at::ENDED] == 0 => "9 of another segment",
             10 => "10 passes by",
             16 => "16 ends it",
             17 => "17 ends it",
@@ -109,71 +114,43 @@ impl Before {
     }
 }
 
-/// Makes a handshake of the first words of the state and sees that nothing else is written.
-fn make(book: &Book, lent: &Lent, words: &mut Words, (state, room): (usize, usize)) -> u64 {
-    let kept = *words;
-    let number = book.read(lent, |block, _| {
-        port::handshake(&block[..state], &mut words[..room])
-    });
-    let written = if number == 0 { WORDS } else { 0 };
-    assert_eq!(words[written..], kept[written..], "words past a handshake");
-    number
+/// The words of a handshake, with guards behind them.
+fn guarded(words: [u64; WORDS]) -> Words {
+    let mut guarded = [GUARD; WORDS + GUARDS];
+    guarded[..WORDS].copy_from_slice(&words);
+    guarded
 }
 
 impl Ported {
-    /// The words for a handshake to be written to, junk and guards.
-    fn fresh_words(&mut self) -> Words {
-        let mut words = [GUARD; WORDS + GUARDS];
-        words[..WORDS].fill_with(|| self.random.word());
-        words
-    }
-
     pub(super) fn forge_handshake(&mut self, slot: u8, handshake: &Handshake) -> Reply {
-        let mut words = self.fresh_words();
+        let mut words = [0; WORDS];
         words[at::NUMBER] = handshake.segment.number;
         words[at::PLACE] = handshake.segment.place;
-        words[at::ENDED] = match handshake.ended {
-            true => self.random.pick(&ENDED),
-            false => 0,
-        };
+        words[at::ENDED] = u64::from(handshake.ended);
         words[at::APPLIED] = handshake.applied;
-        let held = Held::new(words, handshake.start_seq);
+        let held = Held::new(guarded(words), handshake.start_seq);
         let value = held.value();
         self.handshakes.insert(slot, held);
         Reply::new(0, Values::Handshake(value))
     }
 
-    /// The value that a call makes of a book without a segment is looked at, but not kept: a host has no use for it.
+    /// Of a book without a snapshot too: such a handshake has ended.
     pub(super) fn handshake(&mut self, call: &Call, slot: u8) -> Option<Reply> {
-        let mut words = self.fresh_words();
-        if self.random.chance(SHORT_PERCENT) {
-            let (state, room, case) = self.random.pick(&[
-                (0, WORDS, "state short"),
-                (port::BLOCK_WORDS - 1, WORDS, "state short"),
-                (port::BLOCK_WORDS, 0, "handshake short"),
-                (port::BLOCK_WORDS, WORDS - 1, "handshake short"),
-            ]);
-            let book = self.books.get(&call.book)?;
-            let number = make(book, &call.lent, &mut words, (state, room));
-            assert_eq!(number, 7, "a slice is short");
-            self.cases.add("handshake", case);
-        }
-        let more = self.random.below(GUARDS as u64 + 1) as usize;
         let book = self.books.get(&call.book)?;
-        let lengths = (port::BLOCK_WORDS + more, WORDS + more);
-        let number = make(book, &call.lent, &mut words, lengths);
-        for form in forms::of(&book.block) {
-            self.cases.add("handshake", form);
-        }
+        let asked = Asked {
+            call: "handshake",
+            block: &book.block,
+            trials: u64::from(self.random.chance(READ_TRIAL_PERCENT)),
+        };
+        let words = asked.written(&mut self.random, &mut self.cases, port::handshake)?;
+        let mut held = Held::new(guarded(words), book.start_seq());
         if book.segments() == 0 {
-            assert_eq!(words[..WORDS], [book.number(), 0, 0, 0], "no segment");
             self.cases.add("handshake", "no segment");
-            return None;
+            held.early = true;
         }
-        let held = Held::new(words, book.start_seq());
         let value = held.value();
         self.handshakes.insert(slot, held);
-        Some(Reply::new(number, Values::Handshake(value)))
+        Some(Reply::new(0, Values::Handshake(value)))
     }
 
     pub(super) fn step(&mut self, call: &Call, slot: u8, piece: &[u8]) -> Option<Reply> {
@@ -207,24 +184,17 @@ impl Ported {
 
     fn step_message(&mut self, call: &Call, held: &mut Held, message: &Message) -> Option<u64> {
         let words = self.message_form(Export::Step, message);
-        if held.value().ended {
-            held.words[at::ENDED] = self.random.pick(&ENDED);
-        }
-        if self.random.chance(SHORT_PERCENT) {
-            self.step_short(call, held, &words)?;
-        }
+        let trial = self.book_for_trial(call, STEP_TRIAL_PERCENT)?;
         let before = Before::of(self.books.get(&call.book)?, held);
         self.begin_run(call)?;
         let room = WORDS + self.random.below(GUARDS as u64 + 1) as usize;
         let answer = self.lend(Export::Step, call, |state, rows, segments| {
-            let kept = held.words;
-            let lent = &mut held.words[..room];
-            let answer = port::step(state, rows, segments, lent, &words);
-            let short = state.len() < port::BLOCK_WORDS;
-            assert!(!short || held.words == kept, "a short state: the handshake");
-            answer
+            port::step(state, rows, segments, &mut held.words[..room], &words)
         })?;
         held.check(&before.words, answer);
+        if let Some(book) = trial {
+            self.try_step(&book, &call.lent, (before.words, words.clone()), answer);
+        }
         if !matches!(answer, 9 | port::DROPPED) {
             self.note_message(call, &words, answer)?;
         }
@@ -243,24 +213,39 @@ impl Ported {
         Some(answer)
     }
 
-    /// A step that is lent a handshake or a message short: 7, and nothing is touched.
-    fn step_short(&mut self, call: &Call, held: &mut Held, words: &[u64]) -> Option<()> {
-        let lengths = [
-            (0, port::MESSAGE_WORDS, "handshake short"),
-            (WORDS - 1, port::MESSAGE_WORDS, "handshake short"),
-            (WORDS, 0, "message short"),
-            (WORDS, port::MESSAGE_WORDS - 1, "message short"),
-        ];
-        let (room, message, case) = self.random.pick(&lengths);
-        let kept = held.words;
-        let book = self.books.get_mut(&call.book)?;
-        book.refuses_short(&call.lent, port::BLOCK_WORDS, |state, rows, segments| {
-            let lent = &mut held.words[..room];
-            port::step(state, rows, segments, lent, &words[..message])
+    /// The same step with something amiss.
+    fn try_step(
+        &mut self,
+        book: &Book,
+        lent: &Lent,
+        (mut words, mut message): (Words, Vec<u64>),
+        rules: u64,
+    ) {
+        let random = &mut self.random;
+        let mut trial = Trial::new(Export::Step.name(), &book.block, random);
+        amiss::message(&mut message, &mut trial, random);
+        if amiss::drawn(random) {
+            words[at::ENDED] = amiss::above(1, random);
+            trial.met(Part::Value, "ended above 1");
+        }
+        let mut room = WORDS;
+        if amiss::drawn(random) {
+            room = amiss::short(WORDS, random);
+            trial.met(Part::Input, "handshake short");
+        }
+        let given = Given {
+            message: Some(&message),
+            handshake: Some(&words[..room]),
+            ..Given::new(trial.state(), Some(book.memory(lent, trial.extent)))
+        };
+        let Some(number) = trial.expected(&given, rules, &mut self.cases) else {
+            return;
+        };
+        let kept = words;
+        book.turns_away(lent, &trial, number, |state, rows, segments| {
+            port::step(state, rows, segments, &mut words[..room], &message)
         });
-        assert_eq!(held.words, kept, "a short slice leaves the handshake");
-        self.cases.add("step", case);
-        Some(())
+        assert_eq!(words, kept, "the handshake after a trial");
     }
 
     /// As a host writes it out: `bootstrap`, the handshake, a step for each message until one ends it.

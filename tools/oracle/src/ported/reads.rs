@@ -1,22 +1,23 @@
 //! The reads and estimates of the port. Each is lent fresh buffers with guard words behind them and may write only those; words that
-//! no rule looks at (a sell's word, what lies behind a slice's fixed size) vary from call to call.
+//! no rule looks at (what lies behind a slice's fixed size) vary from call to call. A trial lends some of it short, or words of no value.
 
 use std::collections::BTreeMap;
 
-use super::book::{Book, GUARD, GUARDS, Kept};
-use super::cases::{Cases, Read};
-use super::{Reply, forms};
+use super::book::{Block, Book, Extent, GUARD, GUARDS, Kept, RARE_TRIALS};
+use super::boundary::{Given, Memory, OUTPUT_TOO_SMALL};
+use super::cases::{Cases, Read, entries};
+use super::trials::{Part, Trial};
+use super::{READ_TRIAL_PERCENT, Reply, amiss, forms};
 use crate::call::{
     AHEAD_SEED, Act, Ahead, Anchor, Assumption, Buffers, Call, Estimate, Left, Lent, OUTPUT_SEED,
     SCRATCH_SEED, SegmentName, Status, Values, fresh_words, left,
 };
+use crate::generate::random::Random;
 use crate::piece::Side;
 use crate::port::{self, reads as exported};
 
 /// Fills the slices of a fixed size.
 const FIXED_SEED: u64 = 4;
-/// Once in so many reads, a slice of a fixed size is lent one word short before.
-const SHORT_PERIOD: u64 = 8;
 
 /// An estimate's words, with guards behind them, and its ahead-list.
 pub struct Held {
@@ -28,8 +29,6 @@ pub struct Held {
 #[derive(Default)]
 pub struct Reads {
     estimates: BTreeMap<u8, Held>,
-    /// Drawn for each call: the form of its words.
-    turn: u64,
 }
 
 /// Whether it is one of the calls dealt with here.
@@ -49,27 +48,50 @@ fn fixed_words(act: &Act) -> Option<usize> {
         Act::Best => Some(exported::BEST_WORDS),
         Act::QueueEstimate { .. } | Act::QueueEstimateOwn { .. } => Some(exported::ESTIMATE_WORDS),
         Act::VolumeAhead { .. } => Some(exported::AHEAD_WORDS),
-        Act::LastSequence => Some(1),
-        act => entry_words(act).map(|_| 1),
+        Act::LastSequence => Some(exported::LAST_WORDS),
+        act => entry_words(act).map(|_| exported::COUNT_WORDS),
     }
 }
 
 /// The words of an entry of a level read.
 pub fn entry_words(act: &Act) -> Option<usize> {
     match act {
-        Act::LevelQueue { .. } => Some(5),
-        Act::PriorityProfile { .. } => Some(3),
-        Act::L2 { .. } | Act::StaleL2 { .. } => Some(2),
+        Act::LevelQueue { .. } => Some(exported::QUEUE_WORDS),
+        Act::PriorityProfile { .. } => Some(exported::PROFILE_WORDS),
+        Act::L2 { .. } | Act::StaleL2 { .. } => Some(exported::L2_WORDS),
         _ => None,
     }
 }
 
-/// The lengths of the slices of a fixed size: the state, the estimate that is read, and what is written.
-#[derive(Clone, Copy)]
-struct Fixed {
+/// The words of an order of the list that `queue_estimate` writes.
+fn listed_words(act: &Act) -> Option<usize> {
+    matches!(act, Act::QueueEstimate { .. }).then_some(exported::LISTED_WORDS)
+}
+
+/// The side that a read is asked for.
+fn side_of(act: &Act) -> Option<Side> {
+    match *act {
+        Act::LevelQueue { side, .. }
+        | Act::PriorityProfile { side }
+        | Act::L2 { side }
+        | Act::StaleL2 { side }
+        | Act::QueueEstimate { side, .. } => Some(side),
+        _ => None,
+    }
+}
+
+/// What a read is lent beside the rows: words, and the lengths of what it writes.
+struct Lending {
+    block: Block,
+    /// So many words of the block are lent.
     state: usize,
-    estimate: usize,
-    out: usize,
+    /// The estimate that is read.
+    estimate: Vec<u64>,
+    side: u64,
+    /// The slice of a fixed size that is written.
+    fixed: usize,
+    /// Entries of a level read, or a list of orders ahead.
+    output: u64,
 }
 
 /// Words lent to a call, with guards behind them.
@@ -112,44 +134,63 @@ struct Asked<'a> {
     lent: &'a Lent,
     act: &'a Act,
     held: Option<&'a Held>,
-    /// What a sell's word is.
-    sell: u64,
 }
 
-fn word_of(side: Side, sell: u64) -> u64 {
+fn word_of(side: Side) -> u64 {
     match side {
         Side::Buy => 0,
-        Side::Sell => sell,
+        Side::Sell => 1,
     }
 }
 
 impl Asked<'_> {
-    fn done(&self, fixed: Fixed) -> Done {
+    /// As much as the call asks for, or more.
+    fn lending(&self, random: &mut Random) -> Lending {
+        let mut more = || random.below(GUARDS as u64 + 1) as usize;
+        let words = exported::ESTIMATE_WORDS + more();
+        Lending {
+            block: self.book.block,
+            state: port::BLOCK_WORDS + more(),
+            estimate: self
+                .held
+                .map_or(vec![], |held| held.words[..words].to_vec()),
+            side: side_of(self.act).map_or(0, word_of),
+            fixed: fixed_words(self.act).map_or(0, |words| words + more()),
+            output: match listed_words(self.act) {
+                Some(_) => self.lent.ahead,
+                None => self.lent.output,
+            },
+        }
+    }
+
+    fn done(&self, lending: &Lending) -> Done {
         let leveled = entry_words(self.act).is_some();
-        let listed = matches!(self.act, Act::QueueEstimate { .. });
+        let listed = listed_words(self.act).is_some();
         let if_lent = |lent: bool, length: u64| if lent { length } else { 0 };
         let mut scratch = Guarded::fresh(SCRATCH_SEED, if_lent(leveled, self.lent.scratch));
-        let mut output = Guarded::fresh(OUTPUT_SEED, if_lent(leveled, self.lent.output));
-        let mut ahead = Guarded::fresh(AHEAD_SEED, if_lent(listed, self.lent.ahead));
-        let mut out = Guarded::fresh(FIXED_SEED, fixed.out as u64);
-        let answer = self.book.read(self.lent, |block, rows| {
-            let state = &block[..fixed.state];
+        let mut output = Guarded::fresh(OUTPUT_SEED, if_lent(leveled, lending.output));
+        let mut ahead = Guarded::fresh(AHEAD_SEED, if_lent(listed, lending.output));
+        let mut out = Guarded::fresh(FIXED_SEED, lending.fixed as u64);
+        let state = &lending.block[..lending.state];
+        let before = Kept::of(state);
+        let answer = self.book.read(self.lent, |rows| {
             let out = out.lent();
             match *self.act {
                 Act::LastSequence => exported::last_sequence(state, rows, out),
                 Act::Best => exported::best(state, rows, out),
                 Act::Audit => exported::audit(state, rows),
-                Act::QueueEstimate { side, price, .. } => {
-                    let place = (word_of(side, self.sell), price as u64);
+                Act::QueueEstimate { price, .. } => {
+                    let place = (lending.side, price as u64);
                     exported::queue_estimate(state, rows, place, ahead.lent(), out)
                 }
                 Act::QueueEstimateOwn { order_id, .. } => {
                     exported::queue_estimate_own(state, rows, order_id, out)
                 }
-                Act::VolumeAhead { .. } => self.volume_ahead(state, rows, fixed.estimate, out),
-                _ => self.level_read(state, rows, scratch.lent(), output.lent(), out),
+                Act::VolumeAhead { .. } => self.volume_ahead(lending, rows, out),
+                _ => self.level_read(lending, rows, (scratch.lent(), output.lent(), out)),
             }
         });
+        assert!(before.holds(state), "a read wrote into the state");
         Done {
             answer,
             scratch: scratch.back(),
@@ -161,37 +202,33 @@ impl Asked<'_> {
 
     fn level_read(
         &self,
-        state: &[u64],
+        lending: &Lending,
         rows: &[u64],
-        scratch: &mut [u64],
-        out: &mut [u64],
-        count: &mut [u64],
+        (scratch, out, count): (&mut [u64], &mut [u64], &mut [u64]),
     ) -> u64 {
-        let word = |side: Side| word_of(side, self.sell);
+        let (state, side) = (&lending.block[..lending.state], lending.side);
         match *self.act {
-            Act::LevelQueue { side, price } => {
-                let place = (word(side), price as u64);
+            Act::LevelQueue { price, .. } => {
+                let place = (side, price as u64);
                 exported::level_queue(state, rows, scratch, place, out, count)
             }
-            Act::PriorityProfile { side } => {
-                exported::priority_profile(state, rows, scratch, word(side), out, count)
+            Act::PriorityProfile { .. } => {
+                exported::priority_profile(state, rows, scratch, side, out, count)
             }
-            Act::L2 { side } => exported::l2(state, rows, scratch, word(side), out, count),
-            Act::StaleL2 { side } => {
-                exported::stale_l2(state, rows, scratch, word(side), out, count)
-            }
+            Act::L2 { .. } => exported::l2(state, rows, scratch, side, out, count),
+            Act::StaleL2 { .. } => exported::stale_l2(state, rows, scratch, side, out, count),
             ref act => unreachable!("{act:?} is no level read"),
         }
     }
 
     /// Neither the estimate nor its list may change.
-    fn volume_ahead(&self, state: &[u64], rows: &[u64], length: usize, out: &mut [u64]) -> u64 {
+    fn volume_ahead(&self, lending: &Lending, rows: &[u64], out: &mut [u64]) -> u64 {
         let held = self.held.expect("an estimate is held");
-        let memories = [&held.words[..], &held.list];
-        let before = memories.map(Kept::of);
-        let estimate = &held.words[..length];
+        let memories = [&lending.estimate, &held.list];
+        let before = memories.map(|memory| Kept::of(memory));
+        let state = &lending.block[..lending.state];
         let list = &held.list[..self.lent_list(held)];
-        let answer = exported::volume_ahead(state, rows, estimate, list, out);
+        let answer = exported::volume_ahead(state, rows, &lending.estimate, list, out);
         for (before, memory) in before.iter().zip(memories) {
             assert!(before.holds(memory), "a read wrote into the estimate");
         }
@@ -202,27 +239,33 @@ impl Asked<'_> {
         held.list.len().min(self.lent.ahead as usize)
     }
 
-    /// Lends one slice of a fixed size a word short, or not at all: 7 comes before all else, and nothing is written.
-    fn short(&self, turn: u64) -> Option<&'static str> {
-        let out = fixed_words(self.act)?;
-        let mut fixed = Fixed {
-            state: port::BLOCK_WORDS,
-            estimate: exported::ESTIMATE_WORDS,
-            out,
+    /// The words that a success writes into the output or the list.
+    fn need(&self) -> u64 {
+        let each = entry_words(self.act).or(listed_words(self.act));
+        each.map_or(0, |each| each as u64 * entries(self.book, self.act))
+    }
+
+    /// The same call with something amiss, where the rules say `rules` (7 left out): the first number that holds is said, and nothing is written.
+    fn amiss(&self, rules: u64, random: &mut Random, cases: &mut Cases) {
+        let mut trial = Trial::new(self.act.name(), &self.book.block, random);
+        let mut lending = self.lending(random);
+        (lending.block, lending.state) = (trial.block, trial.extent.state);
+        let need = self.need();
+        lending.output = need;
+        self.spoil_input(&mut lending, &mut trial, random);
+        self.shorten_output(&mut lending, &mut trial, random);
+        let given = Given {
+            estimate: self.held.map(|_| &lending.estimate[..]),
+            side: side_of(self.act).map(|_| lending.side),
+            output_short: lending.fixed < fixed_words(self.act).unwrap_or(0)
+                || lending.output < need,
+            ..Given::new(trial.state(), Some(self.memory()))
         };
-        let (name, length) = match turn % 3 {
-            0 => ("state short", &mut fixed.state),
-            1 if self.held.is_some() => ("estimate short", &mut fixed.estimate),
-            _ if out > 0 => ("fixed output short", &mut fixed.out),
-            _ => return None,
+        let Some(number) = trial.expected(&given, rules, cases) else {
+            return;
         };
-        *length = if turn.is_multiple_of(2) {
-            *length - 1
-        } else {
-            0
-        };
-        let done = self.done(fixed);
-        assert_eq!(done.answer, 7, "{name}: {:?}", self.act);
+        let done = self.done(&lending);
+        assert_eq!(done.answer, number, "a trial: {:?}", self.act);
         let buffers = [
             (&done.scratch, SCRATCH_SEED),
             (&done.output, OUTPUT_SEED),
@@ -230,29 +273,67 @@ impl Asked<'_> {
             (&done.fixed, FIXED_SEED),
         ];
         for (buffer, seed) in buffers {
-            assert_eq!(
-                left(buffer, seed, &[]),
-                Left::Untouched,
-                "{name}: {:?}",
-                self.act
-            );
+            let left = left(buffer, seed, &[]);
+            assert_eq!(left, Left::Untouched, "a trial: {:?}", self.act);
         }
-        Some(name)
+    }
+
+    fn memory(&self) -> Memory {
+        let scratch = entry_words(self.act).map(|_| self.lent.scratch as usize);
+        Memory {
+            segments: None,
+            scratch,
+            ..self.book.memory(self.lent, Extent::EXACT)
+        }
+    }
+
+    fn spoil_input(&self, lending: &mut Lending, trial: &mut Trial, random: &mut Random) {
+        if side_of(self.act).is_some() && amiss::drawn(random) {
+            lending.side = amiss::above(1, random);
+            trial.met(Part::Value, "side above 1");
+        }
+        if self.held.is_none() {
+            return;
+        }
+        if amiss::drawn(random) {
+            let (place, what) = random.pick(&ESTIMATE_FLAGS);
+            lending.estimate[place] = amiss::above(1, random);
+            trial.met(Part::Value, what);
+        }
+        if amiss::drawn(random) {
+            let words = amiss::short(exported::ESTIMATE_WORDS, random);
+            lending.estimate.truncate(words);
+            trial.met(Part::Input, "estimate short");
+        }
+    }
+
+    fn shorten_output(&self, lending: &mut Lending, trial: &mut Trial, random: &mut Random) {
+        let fixed = fixed_words(self.act).unwrap_or(0);
+        if fixed > 0 && amiss::drawn(random) {
+            lending.fixed = amiss::short(fixed, random);
+            trial.met(Part::Output, "fixed output short");
+        }
+        if lending.output > 0 && amiss::drawn(random) {
+            lending.output = amiss::short(lending.output as usize, random) as u64;
+            trial.met(Part::Output, "entries short");
+        }
     }
 }
 
-/// The words of an estimate, with guards behind them. `sell` and `own` are the words of a sell and of an own anchor, `rest` the word that
-/// a hypothetical anchor does not use.
-fn estimate_words(estimate: &Estimate, sell: u64, own: u64, rest: u64) -> Vec<u64> {
-    let side = word_of(estimate.side, sell);
+/// The words of an estimate that are 0 or 1.
+const ESTIMATE_FLAGS: [(usize, &str); 2] = [(0, "estimate's side above 1"), (4, "own above 1")];
+
+/// The words of an estimate, with guards behind them. `rest` is the word that a hypothetical anchor does not use.
+fn estimate_words(estimate: &Estimate, rest: u64) -> Vec<u64> {
     let SegmentName { number, place } = estimate.segment;
-    let mut words = vec![side, estimate.price as u64, number, place];
+    let (side, price) = (word_of(estimate.side), estimate.price as u64);
+    let mut words = vec![side, price, number, place];
     words.extend(match estimate.anchor {
         Anchor::Hypothetical { orders, created_at } => [0, orders, created_at, rest],
         Anchor::Own {
             order_id,
             entered_at,
-        } => [own, (order_id >> 64) as u64, order_id as u64, entered_at],
+        } => [1, (order_id >> 64) as u64, order_id as u64, entered_at],
     });
     words.extend([GUARD; GUARDS]);
     words
@@ -279,7 +360,7 @@ fn estimate_of(words: &[u64]) -> Estimate {
         },
         anchor,
     };
-    let form = estimate_words(&estimate, 1, 1, 0);
+    let form = estimate_words(&estimate, 0);
     assert!(form.starts_with(words), "an estimate's form: {words:?}");
     estimate
 }
@@ -337,7 +418,7 @@ impl Done {
                     Anchor::Hypothetical { orders, .. } => orders,
                     Anchor::Own { .. } => 0,
                 };
-                let list = first_words(&self.ahead, orders, 3);
+                let list = first_words(&self.ahead, orders, exported::LISTED_WORDS);
                 Values::Estimate { estimate, list }
             }
             (act, 0) => {
@@ -383,26 +464,26 @@ impl Done {
     }
 }
 
-/// Words that stand for a sell or an own anchor: any but 0.
-const NOT_ZERO: [u64; 4] = [1, 2, u64::MAX, 1 << 63];
-
 impl Reads {
     /// None if a slot that the call names is empty.
     pub fn reply(
         &mut self,
         books: &BTreeMap<u8, Book>,
         call: &Call,
-        turn: u64,
+        random: &mut Random,
         cases: &mut Cases,
     ) -> Option<Reply> {
-        self.turn = turn;
         match &call.act {
             Act::ForgeEstimate {
                 slot,
                 estimate,
                 list,
             } => {
-                let held = self.forged(estimate, list);
+                let held = Held {
+                    estimate: *estimate,
+                    words: estimate_words(estimate, random.below(2) * GUARD),
+                    list: list.to_vec(),
+                };
                 self.estimates.insert(*slot, held);
                 Some(Reply::new(0, Values::Nothing))
             }
@@ -413,24 +494,17 @@ impl Reads {
                 }
                 Some(Reply::new(0, Values::Nothing))
             }
-            _ => self.asked(books.get(&call.book)?, call, cases),
+            _ => self.asked(books.get(&call.book)?, call, random, cases),
         }
     }
 
-    fn sell(&self) -> u64 {
-        NOT_ZERO[self.turn as usize % 4]
-    }
-
-    fn forged(&self, estimate: &Estimate, list: &[u64]) -> Held {
-        let own = NOT_ZERO[self.turn as usize / 4 % 4];
-        Held {
-            estimate: *estimate,
-            words: estimate_words(estimate, self.sell(), own, self.turn % 2 * GUARD),
-            list: list.to_vec(),
-        }
-    }
-
-    fn asked(&mut self, book: &Book, call: &Call, cases: &mut Cases) -> Option<Reply> {
+    fn asked(
+        &mut self,
+        book: &Book,
+        call: &Call,
+        random: &mut Random,
+        cases: &mut Cases,
+    ) -> Option<Reply> {
         let act = &call.act;
         let held = match act {
             Act::VolumeAhead { slot } => Some(self.estimates.get(slot)?),
@@ -441,17 +515,11 @@ impl Reads {
             lent: &call.lent,
             act,
             held,
-            sell: self.sell(),
         };
-        if self.turn.is_multiple_of(SHORT_PERIOD)
-            && let Some(case) = asked.short(self.turn / SHORT_PERIOD)
-        {
-            cases.add(act.name(), case);
-        }
-        for form in forms::of(&book.block) {
+        if let Some(form) = forms::of(&book.block) {
             cases.add(act.name(), form);
         }
-        let (reply, made) = asked.reply(self.turn, cases);
+        let (reply, made) = asked.reply(random, cases);
         if let (Act::QueueEstimate { slot, .. } | Act::QueueEstimateOwn { slot, .. }, Some(made)) =
             (act, made)
         {
@@ -461,17 +529,34 @@ impl Reads {
     }
 }
 
+/// How often a read that the rules answered so is made with something amiss too: the more, the fewer of them there are.
+fn trials(act: &Act, rules: u64, random: &mut Random) -> u64 {
+    match (act, rules) {
+        (Act::LastSequence | Act::Best | Act::Audit, _) | (_, 1 | 2) => RARE_TRIALS,
+        _ => u64::from(random.chance(READ_TRIAL_PERCENT)),
+    }
+}
+
 impl Asked<'_> {
+    /// Trials of a read that was answered so; an output that is too small is no rule's.
+    fn try_amiss(&self, answer: u64, random: &mut Random, cases: &mut Cases) {
+        let rules = if answer == OUTPUT_TOO_SMALL {
+            0
+        } else {
+            answer
+        };
+        cases.invalid(&self.book.block, rules);
+        for _ in 0..trials(self.act, rules, random) {
+            self.amiss(rules, random, cases);
+        }
+    }
+
     /// The reply, and the estimate made.
-    fn reply(&self, turn: u64, cases: &mut Cases) -> (Reply, Option<Held>) {
+    fn reply(&self, random: &mut Random, cases: &mut Cases) -> (Reply, Option<Held>) {
         let act = self.act;
-        let more = turn as usize % (GUARDS + 1);
-        let done = self.done(Fixed {
-            state: port::BLOCK_WORDS + more,
-            estimate: exported::ESTIMATE_WORDS + more,
-            out: fixed_words(act).map_or(0, |words| words + more),
-        });
+        let done = self.done(&self.lending(random));
         done.check_fixed(act);
+        self.try_amiss(done.answer, random, cases);
         let values = done.values(act, self.book.status());
         let buffers = done.buffers(act, &values, self.book.max_orders());
         let number = match values {
@@ -490,7 +575,7 @@ impl Asked<'_> {
         let made = match &values {
             Values::Estimate { estimate, .. } => Some(Held {
                 estimate: *estimate,
-                words: estimate_words(estimate, 1, 1, 0),
+                words: estimate_words(estimate, 0),
                 list: done.ahead,
             }),
             _ => None,

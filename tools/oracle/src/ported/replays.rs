@@ -1,17 +1,21 @@
-//! Runs of messages: those that a book was handed one by one are replayed on a copy of its memory as it was before, beside single calls on
-//! another copy.
+//! Runs of messages: those that a book was handed one by one, words of no message put among them, are replayed on a copy of its memory as it
+//! was before, beside single calls on another copy.
 
-use super::book::{Book, GUARD, GUARDS, at};
+use super::book::{Book, Extent, GUARD, GUARDS, at};
+use super::boundary::{Given, NO_VALUE};
 use super::cases::Cases;
-use super::{Ported, SHORT_PERCENT, forms};
+use super::trials::{Part, Trial};
+use super::{Ported, TRIAL_PERCENT, amiss, forms};
 use crate::call::{Act, Call, Lent};
 use crate::generate::random::Random;
-use crate::port::{self, BLOCK_WORDS, MESSAGE_WORDS};
+use crate::port::{self, MESSAGE_WORDS};
 
 /// After how many messages in a hundred a run is replayed that could go on.
 const END_PERCENT: u64 = 1;
 /// How many runs without a message in a hundred are replayed.
 const EMPTY_PERCENT: u64 = 25;
+/// Before how many messages in a hundred, and before the end, words of no message are put.
+const NO_MESSAGE_PERCENT: u64 = 10;
 /// From how many messages on a run is a long one, and from how many orders on a book a large one.
 const LONG: usize = 100;
 const LARGE: u64 = 1_000;
@@ -47,11 +51,33 @@ impl Run {
 
     /// What the replay is to answer: 1, 2 or 3 as any message is, else 0.
     fn number(&self) -> u64 {
-        let ask = || apply(&mut self.before.clone(), &self.lent, &[0; MESSAGE_WORDS]);
-        match self.answers.first().copied().unwrap_or_else(ask) {
+        let ask = || apply(&mut self.before.clone(), &self.lent, &ANY_MESSAGE);
+        let told = |answer: &&u64| **answer != NO_VALUE;
+        let first = self.answers.iter().find(told).copied();
+        match first.unwrap_or_else(ask) {
             refused @ 1..=3 => refused,
             _ => 0,
         }
+    }
+
+    /// The same run with words of no message put among its messages: each is told 4 and changes nothing.
+    fn with_no_messages(&self, random: &mut Random, cases: &mut Cases) -> Run {
+        let mut run = Run::new(&self.before, self.lent);
+        let mut put = |run: &mut Run| {
+            if random.chance(NO_MESSAGE_PERCENT) {
+                let mut message = ANY_MESSAGE;
+                message[1..].fill_with(|| random.word());
+                cases.add("replay", amiss::spoil_message(&mut message, random));
+                run.push(&message, NO_VALUE);
+            }
+        };
+        let messages = self.messages.chunks_exact(MESSAGE_WORDS);
+        for (message, &answer) in messages.zip(&self.answers) {
+            put(&mut run);
+            run.push(message, answer);
+        }
+        put(&mut run);
+        run
     }
 
     /// The book after single calls; the answers must be those that were given before.
@@ -73,12 +99,12 @@ impl Run {
         };
         let part = random.below(MESSAGE_WORDS as u64);
         words.messages.extend((0..part).map(|_| random.word()));
-        if random.chance(SHORT_PERCENT) {
-            self.refuses_short(&mut words, random, cases);
+        if random.chance(TRIAL_PERCENT) {
+            self.amiss(&mut words, random, cases);
         }
-        let mut more = || random.below(GUARDS as u64 + 1) as usize;
-        let (state, room) = (BLOCK_WORDS + more(), count + more());
-        let number = book.lend(&self.lent, state, |state, rows, segments| {
+        let room = count + random.below(GUARDS as u64 + 1) as usize;
+        let extent = Extent::drawn(random);
+        let number = book.lend(&self.lent, extent, |state, rows, segments| {
             let answers = &mut words.answers[..room];
             port::replay(state, rows, segments, &words.messages, answers)
         });
@@ -93,27 +119,35 @@ impl Run {
         self.note(number, cases);
     }
 
-    /// A replay that is lent a state or answers short: 7, and nothing is touched.
-    fn refuses_short(&self, words: &mut Words, random: &mut Random, cases: &mut Cases) {
-        let count = self.answers.len();
-        let (state, room, case) = if count > 0 && random.chance(50) {
-            (BLOCK_WORDS, random.pick(&[0, count - 1]), "answers short")
-        } else {
-            (random.pick(&[0, BLOCK_WORDS - 1]), count, "state short")
+    /// The same replay with something amiss.
+    fn amiss(&self, words: &mut Words, random: &mut Random, cases: &mut Cases) {
+        let mut trial = Trial::new("replay", &self.before.block, random);
+        let (count, mut room) = (self.answers.len(), words.answers.len());
+        if count > 0 && amiss::drawn(random) {
+            room = amiss::short(count, random);
+            trial.met(Part::Output, "answers short");
+        }
+        let given = Given {
+            output_short: room < count,
+            ..Given::new(
+                trial.state(),
+                Some(self.before.memory(&self.lent, trial.extent)),
+            )
         };
-        let mut book = self.before.clone();
-        book.refuses_short(&self.lent, state, |state, rows, segments| {
+        let Some(number) = trial.expected(&given, self.number(), cases) else {
+            return;
+        };
+        (self.before).turns_away(&self.lent, &trial, number, |state, rows, segments| {
             let answers = &mut words.answers[..room];
             port::replay(state, rows, segments, &words.messages, answers)
         });
         let kept = words.answers.iter().all(|&word| word == GUARD);
-        assert!(kept, "a short slice leaves the answers");
-        cases.add("replay", case);
+        assert!(kept, "a trial leaves the answers");
     }
 
     fn note(&self, number: u64, cases: &mut Cases) {
         let mut add = |case| cases.add("replay", case);
-        forms::of(&self.before.block).for_each(&mut add);
+        forms::of(&self.before.block).map(&mut add);
         match (number, self.answers.is_empty()) {
             (0, false) => add("run"),
             (0, true) => add("run of no message"),
@@ -142,6 +176,7 @@ fn case(answer: u64) -> &'static str {
         0 => "message without effect",
         port::CHANGED => "message changes the book",
         1..=3 => "message refused as all are",
+        NO_VALUE => "message told 4",
         5 => "message told 5",
         10 => "message told 10",
         15 => "message told 15",
@@ -151,8 +186,15 @@ fn case(answer: u64) -> &'static str {
     }
 }
 
+/// The words of some message.
+const ANY_MESSAGE: [u64; MESSAGE_WORDS] = {
+    let mut words = [0; MESSAGE_WORDS];
+    words[0] = 1;
+    words
+};
+
 fn apply(book: &mut Book, lent: &Lent, message: &[u64]) -> u64 {
-    book.lend(lent, BLOCK_WORDS, |state, rows, segments| {
+    book.lend(lent, Extent::EXACT, |state, rows, segments| {
         port::apply(state, rows, segments, message)
     })
 }
@@ -174,7 +216,7 @@ impl Ported {
             for _ in 0..self.random.below(4) {
                 run.push(message, answer);
             }
-            run.check(&mut self.random, &mut self.cases);
+            self.replay(&run);
             return Some(());
         }
         let run = self.runs.get_mut(&call.book)?;
@@ -186,6 +228,11 @@ impl Ported {
         Some(())
     }
 
+    fn replay(&mut self, run: &Run) {
+        let run = run.with_no_messages(&mut self.random, &mut self.cases);
+        run.check(&mut self.random, &mut self.cases);
+    }
+
     /// Replays the run of the call's book.
     fn end_run(&mut self, call: &Call) {
         let Some(book) = self.books.get(&call.book) else {
@@ -194,7 +241,7 @@ impl Ported {
         let run = self.runs.remove(&call.book);
         let run = run.unwrap_or_else(|| Run::new(book, call.lent));
         if !run.answers.is_empty() || self.random.chance(EMPTY_PERCENT) {
-            run.check(&mut self.random, &mut self.cases);
+            self.replay(&run);
         }
     }
 

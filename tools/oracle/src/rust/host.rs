@@ -106,13 +106,19 @@ impl Host {
         })
     }
 
-    pub fn handshake(&self) -> Option<Handshake> {
-        Some(Handshake {
-            segment: self.current_segment()?,
-            start_seq: self.reconstructor.manifest().segments.last()?.start_seq,
+    /// Without a segment, one that has ended.
+    pub fn handshake(&self) -> Handshake {
+        let segment = self.current_segment();
+        let last = self.reconstructor.manifest().segments.last();
+        Handshake {
+            segment: segment.unwrap_or(SegmentName {
+                number: self.number,
+                place: 0,
+            }),
+            start_seq: last.map_or(0, |segment| segment.start_seq),
             applied: 0,
-            ended: false,
-        })
+            ended: segment.is_none(),
+        }
     }
 
     /// The records, with the times that the runner keeps.

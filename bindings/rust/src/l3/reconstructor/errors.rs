@@ -252,7 +252,8 @@ pub enum HandshakeError {
     Apply(ApplyError),
 }
 
-/// A number of 01's table that the Rust does not know. The other such numbers (2, 3 and 6 to 9) cannot arise on memory that a [`BookReconstructor`] owns.
+/// A number of 01's table that the Rust does not know. The other such numbers (2, 3 and 6 to 9) cannot arise on memory that a [`BookReconstructor`] owns, nor can
+/// 768 (an input lent too short).
 ///
 /// [`BookReconstructor`]: super::BookReconstructor
 #[derive(Debug, Clone, Copy, PartialEq, Eq, Error)]
@@ -269,7 +270,7 @@ pub enum Refusal {
 }
 
 impl Refusal {
-    /// The refusal of a number.
+    /// The refusal of a number. 4 is a snapshot's alone, whose bytes may be none: the words of messages and estimates are always a value's.
     ///
     /// # Panics
     ///
@@ -277,7 +278,6 @@ impl Refusal {
     pub(crate) fn of(number: u64) -> Self {
         match number {
             sys::LIMIT_ABOVE_CEILING => Self::LimitAboveCeiling,
-            sys::NOT_A_PIECE => Self::NotAPiece,
             sys::AMOUNT_OUT_OF_RANGE => Self::AmountOutOfRange,
             _ => unreachable!("the library answered {number} on memory of a reconstructor"),
         }
