@@ -37,13 +37,13 @@ boundary-requires c κs = search needs
 -- src/lib.rt:29:9
 returns : tie.Need-returns
 unfolding estimateCall
-returns c = 
+returns c =
     let k-start = c .before .before .before .before .before .before .before in
     turned-away _ _ (λ (n : ℕ). estimateCalled n (k-start .args .ahead .now) (k-start .args .estimate .now)) _ (c .before .boundary .ensures ∙ ap (λ (y : Bool). boundary (k-start .args .state .now) (length (k-start .args .rows .now)) false false y) (c .before .before .no-bit .ensures)) (c .if1 .taken)
 
 -- src/lib.rt:31:9
 load-book-requires : tie.Need-load-book-requires
-load-book-requires c κs = 
+load-book-requires c κs =
     let k-start = c .before .before .before .before .before .before .before in
     passed (k-start .args .state .now) (length (k-start .args .rows .now)) false false (noBit (k-start .args .side)) (eq-eqb _ _ (sym (c .before .boundary .ensures ∙ ap (λ (y : Bool). boundary (k-start .args .state .now) (length (k-start .args .rows .now)) false false y) (c .before .before .no-bit .ensures)) ∙ c .if1 .left)) .whole
 
@@ -54,7 +54,7 @@ unwritten-requires c κs = search needs
 -- src/lib.rt:33:9
 returns-2 : tie.Need-returns-2
 unfolding estimateCall
-returns-2 c = 
+returns-2 c =
     let k-if1 = c .before .before .before in
     let k-boundary = k-if1 .before in
     let k-no-bit = k-boundary .before in
@@ -89,7 +89,7 @@ same-length-2 c = search needs
 -- src/lib.rt:17:1
 returns-3 : tie.Need-returns-3
 unfolding estimateCall
-returns-3 c = 
+returns-3 c =
     let k-queue-estimate = c .before .before .before .before .before .before in
     let k-signed = k-queue-estimate .before .before in
     let k-load-side = k-signed .before in

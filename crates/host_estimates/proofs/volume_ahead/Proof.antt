@@ -32,19 +32,19 @@ boundary-requires c κs = search needs
 -- src/lib.rt:72:9
 returns : tie.Need-returns
 unfolding aheadCall
-returns c = 
+returns c =
     let k-start = c .before .before .before .before .before .before .before .before in
     turned-away _ _ (λ (n : ℕ). answered n (k-start .args .out .now)) _ (c .before .boundary .ensures ∙ ap (λ (y : Bool). boundary (k-start .args .state .now) (length (k-start .args .rows .now)) false (ltb (length (k-start .args .estimate .now)) 8) y) (c .before .before .no-estimate .ensures)) (c .if1 .taken)
 
 -- src/lib.rt:74:38
 load-book-requires : tie.Need-load-book-requires
-load-book-requires c κs = 
+load-book-requires c κs =
     let k-start = c .before .before .before .before .before .before .before .before in
     passed (k-start .args .state .now) (length (k-start .args .rows .now)) false (ltb (length (k-start .args .estimate .now)) 8) (noEstimate (k-start .args .estimate .now)) (eq-eqb _ _ (sym (c .before .boundary .ensures ∙ ap (λ (y : Bool). boundary (k-start .args .state .now) (length (k-start .args .rows .now)) false (ltb (length (k-start .args .estimate .now)) 8) y) (c .before .before .no-estimate .ensures)) ∙ c .if1 .left)) .whole
 
 -- src/lib.rt:74:62
 load-estimate-requires : tie.Need-load-estimate-requires
-load-estimate-requires c κs = 
+load-estimate-requires c κs =
     let k-no-estimate = c .before .before .before in
     let k-start = k-no-estimate .before .before .before .before .before .before in
     ltb-false (length (k-start .args .estimate .now)) 8 (passed (k-start .args .state .now) (length (k-start .args .rows .now)) false (ltb (length (k-start .args .estimate .now)) 8) (noEstimate (k-start .args .estimate .now)) (eq-eqb _ _ (sym (c .before .before .boundary .ensures ∙ ap (λ (y : Bool). boundary (k-start .args .state .now) (length (k-start .args .rows .now)) false (ltb (length (k-start .args .estimate .now)) 8) y) (k-no-estimate .no-estimate .ensures)) ∙ c .before .if1 .left)) .full)
@@ -64,7 +64,7 @@ same-length c = search needs
 -- src/lib.rt:60:1
 returns-2 : tie.Need-returns-2
 unfolding aheadCall
-returns-2 c = 
+returns-2 c =
     let k-volume-ahead = c .before .before .before .before in
     let k-load-estimate = k-volume-ahead .before in
     let k-load-book = k-load-estimate .before in

@@ -28,7 +28,7 @@ returns c = turned-away _ _ (λ (n : ℕ). n) _ (c .before .boundary .ensures) (
 
 -- src/lib.rt:62:44
 load-book-requires : tie.Need-load-book-requires
-load-book-requires c κs = 
+load-book-requires c κs =
     let k-start = c .before .before .before .before in
     passed (k-start .args .state .now) (length (k-start .args .rows .now)) false false false (eq-eqb _ _ (sym (c .before .boundary .ensures) ∙ c .if1 .left)) .whole
 
@@ -43,7 +43,7 @@ number-requires c κs = search needs
 -- src/lib.rt:55:1
 returns-2 : tie.Need-returns-2
 unfolding auditCall
-returns-2 c = 
+returns-2 c =
     let k-if1 = c .before .before .before in
     let k-boundary = k-if1 .before in
     goes-on _ _ (λ (n : ℕ). n) _ _ (k-boundary .boundary .ensures) (k-if1 .if1 .left) (rw (← c .before .before .load-book .ensures) (c .number .ensures ∙ ap (λ x. auditedTold x .number) (c .before .audit .ensures .0)))

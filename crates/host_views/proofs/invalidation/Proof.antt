@@ -25,13 +25,13 @@ own-boundary-requires c κs = search needs
 -- src/lib.rt:71:9
 returns : tie.Need-returns
 unfolding invalidationCall
-returns c = 
+returns c =
     let k-start = c .before .before .before .before in
     turned-away _ _ (λ (n : ℕ). answered n (k-start .args .out .now)) _ (c .before .own-boundary .ensures) (c .if1 .taken)
 
 -- src/lib.rt:73:62
 load-book-requires : tie.Need-load-book-requires
-load-book-requires c κs = 
+load-book-requires c κs =
     let k-start = c .before .before .before .before .before in
     own-passed (k-start .args .state .now) (eq-eqb _ _ (sym (c .before .before .own-boundary .ensures) ∙ c .before .if1 .left)) .0
 
@@ -50,7 +50,7 @@ same-length c = search needs
 -- src/lib.rt:66:1
 returns-2 : tie.Need-returns-2
 unfolding invalidationCall
-returns-2 c = 
+returns-2 c =
     let k-invalidation = c .before .before .before in
     let k-load-book = k-invalidation .before in
     let k-if1 = k-load-book .before .before in

@@ -25,13 +25,13 @@ boundary-requires c κs = search needs
 -- src/lib.rt:38:9
 returns : tie.Need-returns
 unfolding lastCall
-returns c = 
+returns c =
     let k-start = c .before .before .before .before .before in
     turned-away _ _ (λ (n : ℕ). answered n (k-start .args .out .now)) _ (c .before .boundary .ensures) (c .if1 .taken)
 
 -- src/lib.rt:40:52
 load-book-requires : tie.Need-load-book-requires
-load-book-requires c κs = 
+load-book-requires c κs =
     let k-start = c .before .before .before .before .before in
     passed (k-start .args .state .now) (length (k-start .args .rows .now)) false false false (eq-eqb _ _ (sym (c .before .boundary .ensures) ∙ c .if1 .left)) .whole
 
@@ -50,7 +50,7 @@ same-length c = search needs
 -- src/lib.rt:33:1
 returns-2 : tie.Need-returns-2
 unfolding lastCall
-returns-2 c = 
+returns-2 c =
     let k-last-sequence = c .before .before .before .before in
     let k-load-book = k-last-sequence .before in
     let k-if1 = k-load-book .before in

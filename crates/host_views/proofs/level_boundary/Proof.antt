@@ -24,7 +24,7 @@ boundary-requires c κs = search needs
 
 -- src/lib.rt:91:1
 returns : tie.Need-returns
-returns c = 
+returns c =
     let k-start = c .before .before .before .before in
     c .boundary .ensures ∙ ap₂ (λ (x y : Bool). boundary (k-start .args .state .now) (k-start .args .rows) x false y) (c .before .before .scratch-short .ensures) (c .before .no-bit .ensures)
 

@@ -28,13 +28,13 @@ own-boundary-requires c κs = search needs
 -- src/lib.rt:81:9
 returns : tie.Need-returns
 unfolding segmentCall
-returns c = 
+returns c =
     let k-start = c .before .before .before .before .before in
     turned-away _ _ (λ (n : ℕ). answered n (k-start .args .out .now)) _ (c .before .own-boundary .ensures) (c .if1 .taken)
 
 -- src/lib.rt:83:9
 load-book-requires : tie.Need-load-book-requires
-load-book-requires c κs = 
+load-book-requires c κs =
     let k-start = c .before .before .before .before .before in
     own-passed (k-start .args .state .now) (eq-eqb _ _ (sym (c .before .own-boundary .ensures) ∙ c .if1 .left)) .0
 
@@ -57,7 +57,7 @@ same-length c = search needs
 -- src/lib.rt:76:1
 returns-2 : tie.Need-returns-2
 unfolding segmentCall
-returns-2 c = 
+returns-2 c =
     let k-segment-by-value = c .before .before .before .before in
     let k-record-at = k-segment-by-value .before in
     let k-load-book = k-record-at .before in

@@ -35,13 +35,13 @@ level-boundary-requires c κs = search needs
 -- src/lib.rt:209:9
 returns : tie.Need-returns
 unfolding staleCall
-returns c = 
+returns c =
     let k-start = c .before .before .before .before .before .before .before in
     turned-away _ _ (λ (n : ℕ). levelCalled n (k-start .args .scratch .now) (k-start .args .out .now) (k-start .args .count .now)) _ (c .before .level-boundary .ensures) (c .if1 .taken)
 
 -- src/lib.rt:211:9
 load-book-requires : tie.Need-load-book-requires
-load-book-requires c κs = 
+load-book-requires c κs =
     let k-start = c .before .before .before .before .before .before .before in
     passed (k-start .args .state .now) (length (k-start .args .rows .now)) (ltb (length (k-start .args .scratch .now)) (getD (k-start .args .state .now) 3 0)) false (noBit (k-start .args .side)) (eq-eqb _ _ (sym (c .before .level-boundary .ensures) ∙ c .if1 .left)) .whole
 
@@ -56,7 +56,7 @@ unwritten-stale-requires c κs = search needs
 -- src/lib.rt:213:9
 returns-2 : tie.Need-returns-2
 unfolding staleCall
-returns-2 c = 
+returns-2 c =
     let k-load-book = c .before .before .before in
     let k-if1 = k-load-book .before in
     let k-level-boundary = k-if1 .before in
@@ -91,7 +91,7 @@ same-length-3 c = search needs
 -- src/lib.rt:197:1
 returns-3 : tie.Need-returns-3
 unfolding staleCall
-returns-3 c = 
+returns-3 c =
     let k-stale-l2 = c .before .before .before .before .before .before .before .before in
     let k-load-side = k-stale-l2 .before .before in
     let k-if2 = k-load-side .before .before in

@@ -41,28 +41,28 @@ enum-told-4 c = search needs
 -- src/lib.rt:107:1
 returns : tie.Need-returns
 unfolding staleRead
-returns c = 
+returns c =
     let k-read-checks = c .before .before .before .before in
     rw (said _ _ _ (k-read-checks .read-checks .ensures) (c .before .before .why .given .1), c .number .ensures) (sym (state-lastly (c .before .before .why .given .0 .0)))
 
 -- src/lib.rt:107:1
 returns-2 : tie.Need-returns-2
 unfolding staleRead
-returns-2 c = 
+returns-2 c =
     let k-read-checks = c .before .before .before .before in
     rw (said-none _ _ (k-read-checks .read-checks .ensures) (c .before .before .enum-told .given .1), c .enum-told2 .given .1)
 
 -- src/lib.rt:107:1
 returns-3 : tie.Need-returns-3
 unfolding staleRead
-returns-3 c = 
+returns-3 c =
     let k-read-checks = c .before .before .before .before in
     rw (said-none _ _ (k-read-checks .read-checks .ensures) (c .before .before .enum-told .given .1), c .enum-told3 .given .1)
 
 -- src/lib.rt:107:1
 returns-4 : tie.Need-returns-4
 unfolding staleRead
-returns-4 c = 
+returns-4 c =
     let k-read-checks = c .before .before .before .before in
     rw (said-none _ _ (k-read-checks .read-checks .ensures) (c .before .before .enum-told .given .1), c .enum-told4 .given .1)
 
