@@ -16,6 +16,7 @@ use reconstructor_state::Status;
 ghost use mathlib.Core.Path.{_≡_};
 ghost use Rattle.book.specs.Rows.{ceiling, rowsOf, lineOf};
 ghost use Rattle.book_index.specs.Index.{Indexed};
+ghost use Rattle.reconstructor_answers.specs.Numbers.{answerTold};
 ghost use Rattle.reconstructor_state.specs.State.{lastOf};
 ghost use Rattle.reconstructor_checks.specs.Own.{Trusted};
 ghost use Rattle.reconstructor_plan.specs.Rules.{eventDeed};
@@ -324,7 +325,7 @@ pub fn apply(
     segments: &mut [Segment],
     message: L3Message,
 ) -> Reply
-    ensures { λ r. ⌜ leaves r (now (rows .exit)) (now (segments .exit)) ≡ applied ceiling book (now (rows .entry)) (now (segments .entry)) message ⌝ }
+    ensures { λ r. ⌜ (leaves r (now (rows .exit)) (now (segments .exit)) ≡ applied ceiling book (now (rows .entry)) (now (segments .entry)) message) × (answerTold (r .answer) ≡ answerTold (applied ceiling book (now (rows .entry)) (now (segments .entry)) message .answer)) ⌝ }
 {
     let count = book.segment_count();
     let last = reconstructor_segments::last_segment(segments, count);

@@ -21,7 +21,7 @@ ghost use lib.Dec.{ltb};
 ghost use Rattle.book.specs.Line.{rests, hasLevel};
 ghost use Rattle.book.specs.Rows.{Lent, ceiling, rowsOf, lineOf, idOf, sideOf, stored, snapshotKind, snapshotRow};
 ghost use Rattle.reconstructor_checks.specs.Own.{Usable};
-ghost use Rattle.reconstructor_bootstrap.specs.Numbers.{snapshotErrorNumber, snapshotNumber};
+ghost use Rattle.reconstructor_bootstrap.specs.Numbers.{snapshotErrorNumber, snapshotTold, snapshotNumber};
 ghost use Rattle.reconstructor_bootstrap.specs.Snapshot.{snapshotLine, lineRefusal, snapshotRefusal, pieceAnswer};
 ghost use Rattle.reconstructor_bootstrap.specs.Bootstrap.{leaves, refusedBook, bootedBook, bootstrapped, validated};
 ghost use Rattle.reconstructor_bootstrap.specs.ByValue.{booted, refusedWork, closedTo, acceptedTo, usableTo, bootstrappedTo, replyOf};
@@ -495,7 +495,7 @@ pub fn bootstrap(
     segments: &mut [Segment],
     bytes: &[u8],
 ) -> Reply
-    ensures { λ r. ⌜ leaves r (now (rows .exit)) (now (segments .exit)) ≡ bootstrapped ceiling book (now (rows .entry)) (now (segments .entry)) (now (bytes .entry)) ⌝ }
+    ensures { λ r. ⌜ (leaves r (now (rows .exit)) (now (segments .exit)) ≡ bootstrapped ceiling book (now (rows .entry)) (now (segments .entry)) (now (bytes .entry))) × (snapshotTold (r .answer) ≡ snapshotTold (bootstrapped ceiling book (now (rows .entry)) (now (segments .entry)) (now (bytes .entry)) .answer)) ⌝ }
 {
     let count = book.segment_count();
     let last = reconstructor_segments::last_segment(segments, count);

@@ -10,7 +10,7 @@ ghost use mathlib.Core.Path.{_≡_};
 ghost use Rattle.book.specs.Rows.{ceiling};
 ghost use Rattle.reconstructor_state.specs.State.{segmentOf};
 ghost use Rattle.reconstructor_checks.specs.Own.{Trusted};
-ghost use Rattle.reconstructor_handshake.specs.Step.{newHandshake, stepNumber, otherSegment, drops, stepLeaves, stepped};
+ghost use Rattle.reconstructor_handshake.specs.Step.{newHandshake, stepTold, stepNumber, otherSegment, drops, stepLeaves, stepped};
 ghost use Rattle.reconstructor_handshake.specs.ByValue.{ends, appliedBy, stepWorked, stepTo, steppedTo, stepReplyOf};
 
 // A handshake for one segment, with how many messages it applied. It hands itself back at each step.
@@ -211,7 +211,7 @@ impl Handshake {
         segments: &mut [Segment],
         message: L3Message,
     ) -> StepReply
-        ensures { λ r. ⌜ stepLeaves r (now (rows .exit)) (now (segments .exit)) ≡ stepped ceiling self book (now (rows .entry)) (now (segments .entry)) message ⌝ }
+        ensures { λ r. ⌜ (stepLeaves r (now (rows .exit)) (now (segments .exit)) ≡ stepped ceiling self book (now (rows .entry)) (now (segments .entry)) message) × (stepTold (r .answer) ≡ stepTold (stepped ceiling self book (now (rows .entry)) (now (segments .entry)) message .answer)) ⌝ }
     {
         let count = book.segment_count();
         let last = reconstructor_segments::last_segment(segments, count);

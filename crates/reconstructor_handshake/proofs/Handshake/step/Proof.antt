@@ -39,7 +39,7 @@ use Rattle.reconstructor_handshake.proofs.StepReply.Laws as Y′
 use Rattle.message.proofs.L3Message as Msg
 use Rattle.message.proofs.L3Message.Laws as Msg′
 use Rattle.book.specs.Rows.{ceiling}
-use Rattle.reconstructor_handshake.specs.Step.{stepLeaves, stepped}
+use Rattle.reconstructor_handshake.specs.Step.{StepParts, stepTold, stepLeaves, stepped}
 use Rattle.reconstructor_handshake.specs.ByValue.{stepWorked, steppedTo, relistedStep, stepReplyOf}
 use Rattle.reconstructor_handshake.proofs.ByValue.{stepped-by-value}
 use Rattle.reconstructor_handshake.proofs.StepShell as shell
@@ -72,11 +72,11 @@ step-spec 𝓤 H 𝓜 𝓖 𝓡 =
     met 𝓤 H 𝓜 𝓖 𝓡 code.env name code.function (code.unfolded 𝓤 H 𝓜 𝓡) f.ended (shell.stayed 𝓤 H A W (handshake 𝓤 H A W) (book 𝓤 H A W) (work 𝓤 H A W) (reply 𝓤 H A W) (message 𝓤 H A W)) (f.clauses 𝓤 H A (𝓜 .mem) (𝓡 .run)) (shell.goes 𝓤 H A W (handshake 𝓤 H A W) (book 𝓤 H A W) (work 𝓤 H A W) (reply 𝓤 H A W) (message 𝓤 H A W))
     (shell.walks 𝓤 H A W (handshake 𝓤 H A W) (book 𝓤 H A W) (work 𝓤 H A W) (reply 𝓤 H A W) (message 𝓤 H A W) count-of-def.name last-segment-def.name by-value-def.name segment-of-def.name rewrite-last-def.name reply-of-def.name
     (tables 𝓤 H 𝓜 𝓡 code.env .C) (tables 𝓤 H 𝓜 𝓡 code.env .Λ) (framed 𝓤 H 𝓜 𝓖 𝓡 code.env)
-    (λ b. b .segments) (λ z b us n g m w vs. stepWorked w vs ≡ steppedTo ceiling z b us n g m) (λ w. w .segment) stepReplyOf (λ z b us ys m r vs zs. stepLeaves r vs zs ≡ stepped ceiling z b us ys m)
+    (λ b. b .segments) (λ z b us n g m w vs. stepWorked w vs ≡ steppedTo ceiling z b us n g m) (λ w. w .segment) stepReplyOf (λ z b us ys m r vs zs. (stepLeaves r vs zs ≡ stepped ceiling z b us ys m) × (stepTold (r .answer) ≡ stepTold (stepped ceiling z b us ys m .answer)))
     (cited 𝓤 H (tripleOf 𝓤 H A count-of.signature (count-of.spec 𝓤 H A (𝓜 .mem) (𝓡 .run))) 𝓜 𝓡 code.env count-of-def.name count-of-def.routine code.calls-reconstructor-state·BookReconstructor·segment-count (count-of-thm.met 𝓤 H 𝓜 𝓖 𝓡))
     (cited 𝓤 H (tripleOf 𝓤 H A last-segment.signature (last-segment.spec 𝓤 H A (𝓜 .mem) (𝓡 .run))) 𝓜 𝓡 code.env last-segment-def.name last-segment-def.routine code.calls-reconstructor-segments·last-segment (last-segment-thm.met 𝓤 H 𝓜 𝓖 𝓡))
     (cited 𝓤 H (tripleOf 𝓤 H A by-value.signature (by-value.spec 𝓤 H A (𝓜 .mem) (𝓡 .run))) 𝓜 𝓡 code.env by-value-def.name by-value-def.routine code.calls-reconstructor-handshake·Handshake·step-by-value (by-value-thm.met 𝓤 H 𝓜 𝓖 𝓡))
     (cited 𝓤 H (tripleOf 𝓤 H A segment-of.signature (segment-of.spec 𝓤 H A (𝓜 .mem) (𝓡 .run))) 𝓜 𝓡 code.env segment-of-def.name segment-of-def.routine code.calls-reconstructor-handshake·segment-of (segment-of-thm.met 𝓤 H 𝓜 𝓖 𝓡))
     (cited 𝓤 H (tripleOf 𝓤 H A rewrite-last.signature (rewrite-last.spec 𝓤 H A (𝓜 .mem) (𝓡 .run))) 𝓜 𝓡 code.env rewrite-last-def.name rewrite-last-def.routine code.calls-reconstructor-segments·rewrite-last (rewrite-last-thm.met 𝓤 H 𝓜 𝓖 𝓡))
     (cited 𝓤 H (tripleOf 𝓤 H A reply-of.signature (reply-of.spec 𝓤 H A (𝓜 .mem) (𝓡 .run))) 𝓜 𝓡 code.env reply-of-def.name reply-of-def.routine code.calls-reconstructor-handshake·reply-of (reply-of-thm.met 𝓤 H 𝓜 𝓖 𝓡))
-    (λ z b us ys m w vs e. ap (relistedStep ys (b .segments)) e ∙ sym (stepped-by-value z b us ys m)))
+    (λ z b us ys m w vs e. let x = ap (relistedStep ys (b .segments)) e ∙ sym (stepped-by-value z b us ys m) in (x, ap (λ (p : StepParts). stepTold (p .answer)) x)))
