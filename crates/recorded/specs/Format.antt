@@ -3,7 +3,7 @@
 --   1        whose answer is recorded: 0 the Rust's, 1 the runner's (what the Rust lacks, such as 1, 2 and 7), else the model's
 --   2 to 13  six lengths of two bytes: the payload in bytes; rows, segments, scratch, output and ahead-list lent, in words (at most 2,048, 512,
 --            256, 1,280 and 768: the program has no more)
---   14, 15   a side (0 buy, else sell); of a write the memory: 0 the state, 1 the rows, else the segments
+--   14, 15   a side (0 buy, 1 sell; another is none, and answered by 4); of a write the memory: 0 the state, 1 the rows, else the segments
 --   16, 24   two arguments of eight bytes
 -- The program keeps one book, and lends each call the first words of its memory. Operations, their arguments and payloads:
 --   0  create                the rows' seed; the first six words of the state (the others become 0, as the segments do; the rows become what the seed gives)
