@@ -1,5 +1,5 @@
-// The library as Rust and C call it: functions on numbers and slices, each answering a number of 01's table, 0 for success (of a message that changed the
-// book, 256). A slice is lent as a pointer and a length; what one call is lent does not overlap.
+// The library as Rust and C call it: functions on numbers and slices, each answering a number: of 01's table, or 0 for success, 256 for a message that changed the book and
+// where there is nothing to tell, 512 for a message that a step dropped, 768 (below); `pinuglaw_rows_broken` answers yes or no. A slice is lent as a pointer and a length; what one call is lent does not overlap.
 // Before the rules, a call that reads a state answers 768 where an input of fixed size is lent too short (27 words of state, 21 of a message, 4 of a handshake, 8 of an
 // estimate), 4 where words are those of no message, handshake, estimate or side, and 3, after 1 and 2, where the state is that of no book; it then touches nothing
 // (crate `host_boundary`). An output that is too small is 7, said last.
@@ -76,8 +76,8 @@ pub extern "C" fn pinuglaw_new(
 }
 
 // Applies a message of 21 words to the book whose state is the first 27 words of `state`; crate `host_words` has both layouts in specs/Block.antt.
-// Answers 256 where the book changed, 0 where the message was applied without effect, else the number that turns it away. Those 27 words are the state afterwards; of a
-// refusal, but for the count that 10 and 17 raise, the words lent.
+// Answers 256 where the book changed, 0 where the message was applied without effect, else the number that turns it away. Those 27 words are the state afterwards: 16
+// sets the status and ends the segment, 10 and 17 raise a count, any other refusal leaves the words lent.
 #[no_mangle]
 pub extern "C" fn pinuglaw_apply(
     state: &mut [u64],
@@ -121,7 +121,7 @@ pub extern "C" fn pinuglaw_handshake(state: &[u64], handshake: &mut [u64]) -> u6
 }
 
 // Steps a handshake by a message of 21 words. Answers as `pinuglaw_apply` does, 512 where the message was dropped, and 9 where the handshake has ended or is
-// of another segment. A refusal leaves what it leaves of `pinuglaw_apply`; 17 ends the handshake.
+// of another segment. A refusal leaves what it leaves of `pinuglaw_apply`; 16 and 17 end the handshake.
 #[no_mangle]
 pub extern "C" fn pinuglaw_step(
     state: &mut [u64],
@@ -141,7 +141,7 @@ pub extern "C" fn pinuglaw_step(
 
 // Applies the messages in `messages`, 21 words each, in turn: what as many calls of `pinuglaw_apply` answer and leave, with the number of each message in a
 // word of `answers`, and the words past those untouched. Words past the last whole message are not read. Answers 0; 1, 2 or 3, and touches nothing, where every
-// message would be told so; then 7, and touches nothing, where there are fewer answer words than messages.
+// message that is one would be told so; then 7, and touches nothing, where there are fewer answer words than messages.
 #[no_mangle]
 pub extern "C" fn pinuglaw_replay(
     state: &mut [u64],

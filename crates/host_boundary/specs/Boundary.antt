@@ -1,8 +1,9 @@
--- What the words of an exported call are turned away for before the rules are worked. Demand 1: "All else is turned away under a number from 01's table". In turn:
---   768  an input of fixed size is lent shorter than it is: 27 words of state, 21 of a message, 4 of a handshake, 8 of an estimate. No number of 01's table
---   4    the words are those of no message, handshake, estimate or side, as bytes may be no piece
---   3    the state block is that of no book, after 1 and 2: the words lent are no book
--- Then nothing is touched. The layouts are in Block.antt of `host_words`, and beside the values.
+-- What the words of an exported call are turned away for before the rules are worked: what 01 does not admit, and what it does not speak of. In turn:
+--   768  an input of fixed size is lent shorter than it is: 27 words of state, 21 of a message, 4 of a handshake, 8 of an estimate. No number of 01's table, which has
+--        no words: the call is no call yet
+--   4    a kind, side, reason, presence, flag or number that no message, handshake, estimate or side has, as bytes may be no piece
+--   3    a state block whose size_decrease, status or reason no book has: the words lent are no book. After 1 and 2, where the call is lent rows
+-- Then nothing is touched. The layouts are in Block.antt of `host_words`, and beside the values; words that no field names do not matter.
 use Prim.Native.Nat.{ℕ, _*_}
 use mathlib.Core.Bool.{Bool, true, _||_, _&&_, cond}
 use mathlib.Core.List.{List}
@@ -67,7 +68,7 @@ unfoldable pub boundary : List ℕ → ℕ → Bool → Bool → Bool → ℕ
 boundary st rows less short wrong =
     cond (ltb (length st) 27 || short) shortInput (cond wrong 4 (cond (noBook st) (noBookNumber (rulesOf st) rows less) 0))
 
--- of a call that is lent the state alone
+-- of a call that is lent no rows, and tells the state's own fields or the list's: 1 and 2 do not arise there
 unfoldable pub ownBoundary : List ℕ → ℕ
 ownBoundary st = cond (ltb (length st) 27) shortInput (cond (noBook st) 3 0)
 

@@ -1,4 +1,4 @@
--- An estimate from words: as `estimateValues` of crate `queue` gives them. Any words are read as some estimate; those that no estimate is written as are turned away
+-- An estimate from words: as `estimateValues` of crate `queue` gives them. Any words are read as some estimate; a side or an anchor that none has is turned away
 -- before (crate `host_boundary`). The last word does not matter of a hypothetical order.
 use Prim.Native.Nat.{ℕ}
 use mathlib.Core.Bool.{cond}

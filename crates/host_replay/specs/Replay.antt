@@ -54,7 +54,7 @@ countOf ms = length ms / 21
 abbrev pub afterRun : List ℕ → Run → ReplayCall
 afterRun out r = replayCalled 0 (r .state) (r .rows) (r .segments) (r .numbers ++ drop (length (r .numbers)) out)
 
--- 1, 2 or 3, which every message would be told: nothing is touched
+-- 1, 2 or 3, which every message would be told that is one: nothing is touched
 abbrev pub replaySettled : Option StateError → List ℕ → List ℕ → List ℕ → List ℕ → List ℕ → ReplayCall
 replaySettled (some e) st ws sg ms out = replayCalled (stateErrorNumber e) st ws sg out
 -- then 7: fewer answer words than messages

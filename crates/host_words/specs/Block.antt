@@ -1,5 +1,5 @@
--- A state and a message from words, and a state as words. Any words are read as some state and some message; those that no value is written as are turned away before
--- (crate `host_boundary`).
+-- A state and a message from words, and a state as words. Any words are read as some state and some message; a kind, side, reason, presence, status or number that none has is
+-- turned away before (crate `host_boundary`).
 use Prim.Native.Nat.{ℕ, _*_, _%_}
 use mathlib.Core.List.{List, [], _∷_, _++_}
 use mathlib.Core.Bool.{Bool, true, false, cond}

@@ -15,7 +15,7 @@ use Rattle.reconstructor_state.specs.State.{View, lastOf}
 use Rattle.ledger.specs.Ledger.{Config, Call, bootstrap, apply, step, read, Ledger, blank, fresh, feed, feedAll}
 use Rattle.ledger.specs.World.{World, run, Lendable, freshWorld, lineAt}
 use Rattle.ledger.specs.Kept.{kept}
-use Rattle.ledger.specs.Sum.{standingOf, standingAt, Stand, Alike, Fallen, figuresOf, Read, numbered, SumRule}
+use Rattle.ledger.specs.Sum.{standingOf, standingAt, Stand, Alike, Fallen, figuresOf, Read, numbered, SumRule, Demand3}
 use Rattle.ledger.proofs.Volumes.{Tallies}
 use Rattle.ledger.proofs.Accept.{all-tallies, fresh-tallies}
 use Rattle.ledger.proofs.Follow.{Follows, never-three, viewAll, follow-all, fresh-follows, line-is}
@@ -137,3 +137,6 @@ module _ (c : Config) (ws : List ℕ) (sg : List Segment) where
                 stale-said-of (run (freshWorld c ws sg) ks .book) (run (freshWorld c ws sg) ks .rows) n sc s out k h
                 ∙ ap (λ (x : List Entry). map (λ (p : ℕ). (p, volume s p x)) (prices s x)) (line-is c ws sg ks l ∙ t .line ∙ sym (line-is c ws sg (t .before) l₂));
           }
+
+pub demand-3 : Demand3
+demand-3 c ws sg ks l = sum-rule c ws sg ks l

@@ -92,7 +92,8 @@ pub record Enough (v : VenueRules) (rows scratch : ℕ) : Type 0 where
 abbrev pub invalidNumber : VenueRules → ℕ → Bool → ℕ
 invalidNumber v rows short = cond (overCeiling ceiling v) 1 (cond (ltb rows (8 * v .«max_orders») || short) 2 18)
 
--- "every read is turned away save the stale one": each by exactly that number, whatever it is asked and lent beside these rows
+-- "every read is turned away save the stale one": each of 01's reads of the book by exactly that number, whatever it is asked and lent beside these rows. (The invalidation in
+-- force and a segment's record are fields of the state and of the list, and answer in any standing.)
 pub record TurnedAway (v : VenueRules) (b : BookReconstructor) (ws : List ℕ) : Type 0 where
   pub last-sequence : viewedTold (lastSequence ceiling b ws) .number ≡ invalidNumber v (length ws) false
   pub best : bestTold (bestRead ceiling b ws) .number ≡ invalidNumber v (length ws) false
@@ -182,3 +183,7 @@ pub record SumRule (c : Config) (ws : List ℕ) (sg : List Segment) (ks : List C
       → bookRefusal ceiling (run (freshWorld c ws sg) ks .book) (lentRows n (run (freshWorld c ws sg) ks)) (length (lentSegments n (run (freshWorld c ws sg) ks))) ≡ some MalformedBook → ⊥
   -- the reads of that book
   pub reads : Read (c .rules) (run (freshWorld c ws sg) ks) (feedAll c fresh ks)
+
+-- the one claim: "any list of calls on one book .. from a fresh one", of any product, rules and number, with anything in its memory, each call lent no more than there is
+abbrev pub Demand3 : Type 0
+Demand3 = (c : Config) (ws : List ℕ) (sg : List Segment) (ks : List Call) → Lendable (length ws) (length sg) ks → SumRule c ws sg ks

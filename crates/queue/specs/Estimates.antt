@@ -162,7 +162,3 @@ anchorAhead b q (Own d t) l os = ownAhead (b .rules .«size_decrease») (lastOf 
 abbrev pub volumeAhead : ℕ → BookReconstructor → List ℕ → QueueEstimate → List ℕ → AheadAnswer
 volumeAhead top b ws q l =
     aheadOf (aheadRefusal top b ws q l) (anchorAhead b q (q .anchor) l (rowsOf ws (b .rows)))
-
--- the assumptions as the Rust lists them
-abbrev pub assumptionsOf : QueueAhead → List Assumption
-assumptionsOf a = a .assumption ∷ cond (a .«keeps_priority») (hypotheses.SizeDecreaseKeepsPriority ∷ []) []

@@ -26,4 +26,4 @@ use Rattle.stars.proofs.Snapshots.{examples}
 
 pub stars : Stars
 unfolding applied gated settled recorded accepted acceptedReply invalidatedReply refusedReply turnRefusal gateRefusal admitRefusal stateRefusal broken eventDeed counterOf effect eventRefusal sizeRefusal changeRefusal makerRefusal doneRefusal openRefusal check first saturated rowsFrom stored sideOf rowBroken inRange optionalInRange eventInRange orderInRange ordersInRange differs givenDiffers absentOrDiffers sameId sameProduct viewRefusal readRefusal auditedOf shown levelRead estimated ownViewed aheadRefusal tallied aheadOf entriesFrom stepped settledStep stepRefusal part little big littleBytes bigBytes wordAt amountAt orderIdAt productIdAt bidsAt asksAt snapshotShaped orderFrom orderAt ordersFrom snapshotOf readSnapshot lineRefusal snapshotRefusal acceptRefusal bootRefusal closed bootstrapped
-stars = record { numbers = refl; gap = refl; behind = refl; snapshots = examples; steps = refl; reads = refl; c1 = refl; c2 = refl; c2-ahead = refl; c2-rows = refl; c2-list = refl; c3-rows = refl; c3-applied = refl }
+stars = record { numbers = refl; gap = refl; behind = refl; snapshots = examples; skipped = refl; unread = refl; steps = refl; reads = refl; c1 = refl; c2 = refl; c2-ahead = refl; c2-rows = refl; c2-list = refl; c3-rows = refl; c3-applied = refl }

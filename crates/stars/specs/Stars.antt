@@ -23,15 +23,12 @@ use Rattle.reconstructor_counts.specs.Counts.{largest}
 use Rattle.reconstructor_segments.specs.declared.Segment.{Segment}
 use Rattle.reconstructor_state.specs.declared.Status.the-variants.{Valid}
 use Rattle.reconstructor_state.specs.declared.BookReconstructor.{BookReconstructor}
-use Rattle.reconstructor_answers.specs.declared.ApplyAnswer.the-variants as answers
-use Rattle.reconstructor_answers.specs.declared.Applied.the-variants.{NoBookEffect}
 use Rattle.reconstructor_answers.specs.Numbers.{answerTold}
 use Rattle.reconstructor.specs.Applied.{Parts, applied}
 use Rattle.reconstructor_bootstrap.specs.Bootstrap.{Parts as SnapshotParts, bootedBook, bootstrapped}
 use Rattle.reconstructor_handshake.specs.declared.Handshake.{Handshake}
 use Rattle.reconstructor_handshake.specs.declared.StepAnswer.{StepAnswer}
-use Rattle.reconstructor_handshake.specs.declared.StepAnswer.the-variants.{Stepped, Dropped, OtherSegment}
-use Rattle.reconstructor_handshake.specs.Step.{StepParts, stepped}
+use Rattle.reconstructor_handshake.specs.Step.{StepParts, stepTold, stepped}
 use Rattle.reconstructor_view.specs.Numbers.{auditedTold}
 use Rattle.reconstructor_view.specs.View.{auditRead}
 use Rattle.reconstructor_reads.specs.Numbers.{levelTold}
@@ -245,11 +242,15 @@ figure at volume orders =
 pub record Stars : Type 0 where
   -- every example of the table gives its number: of messages, of snapshots, of steps, of reads
   pub numbers : map (λ (r : Row). numberOf (toldOf (r .example))) table ≡ map (λ (r : Row). r .number) table
+  -- 17 and 18 carry what 16 does
+  pub skipped : toldOf (next gap (at 103 (Received z Buy))) ≡ told 17 (100 ∷ 102 ∷ 20 ∷ 101 ∷ 102 ∷ 0 ∷ [])
+  pub unread : auditedTold (auditRead ceiling (after gap .book) (after gap .rows)) ≡ told 18 (100 ∷ 102 ∷ 20 ∷ 101 ∷ 102 ∷ 0 ∷ [])
   -- 16 "with the last good sequence, the offending one and the reason": of 20 what was expected and what came, of 21 the last one and what came
   pub gap : toldOf gap ≡ told 16 (100 ∷ 102 ∷ 20 ∷ 101 ∷ 102 ∷ 0 ∷ [])
   pub behind : toldOf behind ≡ told 16 (100 ∷ 100 ∷ 21 ∷ 100 ∷ 100 ∷ 0 ∷ [])
   pub snapshots : Examples
-  pub steps : steps ≡ OtherSegment ∷ OtherSegment ∷ OtherSegment ∷ Dropped ∷ Stepped (answers.Applied NoBookEffect) ∷ []
+  -- 9 three times; a drop, and a message without effect
+  pub steps : map (λ (a : StepAnswer). stepTold a .number) steps ≡ 9 ∷ 9 ∷ 9 ∷ 512 ∷ 0 ∷ []
   pub reads : map (λ (t : Told). t .number) reads ≡ 7 ∷ 8 ∷ 15 ∷ 18 ∷ 50 ∷ 50 ∷ 51 ∷ 52 ∷ []
   -- C1: "E, open C buy 10 size 5 at 101: own estimate of C gives volume 2, from snapshot 2, observed 0, orders 1"
   pub c1 : aheadFrom (after opened .book) (after opened .rows) (own (after opened .book) (after opened .rows) o) [] ≡ queues.Ahead (figure 101 2 1)
