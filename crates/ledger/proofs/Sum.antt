@@ -1,6 +1,6 @@
 -- The sum rule, of any list of calls.
 -- Assumes nothing.
-use Prim.Native.Nat.{ℕ, _-_, _≤_}
+use Prim.Native.Nat.{ℕ, zero, suc, _-_, _<_, _≤_}
 use native.Mathlib.Omega.{arith}
 use mathlib.Core.Path.{_≡_, refl, sym, ap, ap₂, subst, _∙_}
 use mathlib.Core.List.{List, [], _∷_, _++_, map, append-assoc}
@@ -10,7 +10,7 @@ use Rattle.message.specs.Amounts.{natOf}
 use Rattle.book.specs.Line.{Entry, volume, queue}
 use Rattle.book_levels.specs.Levels.{prices}
 use Rattle.reconstructor_segments.specs.declared.Segment.{Segment}
-use Rattle.reconstructor_segments.specs.Segments.{segmentAt}
+use Rattle.reconstructor_segments.specs.Segments.{segmentAt, lastSegment}
 use Rattle.reconstructor_state.specs.State.{View, lastOf}
 use Rattle.ledger.specs.Ledger.{Config, Call, bootstrap, apply, step, read, Ledger, blank, fresh, feed, feedAll}
 use Rattle.ledger.specs.World.{World, run, Lendable, freshWorld, lineAt}
@@ -37,6 +37,11 @@ lend-front r s (bootstrap n bytes ∷ a) b l = (l .0, lend-front r s a b (l .1))
 lend-front r s (apply n m ∷ a) b l = (l .0, lend-front r s a b (l .1))
 lend-front r s (step n h m ∷ a) b l = (l .0, lend-front r s a b (l .1))
 lend-front r s (read q ∷ a) b l = lend-front r s a b l
+
+-- the last of some records is at the place before their number
+last-at : (sg : List Segment) (n : ℕ) → 0 < n → segmentAt sg (n - 1) .«start_seq» ≡ lastSegment sg n .«start_seq»
+last-at sg zero h = absurd (omega (arith, h))
+last-at sg (suc n) h = let e : suc n - 1 ≡ n = omega arith in ap (λ (k : ℕ). segmentAt sg k .«start_seq») e
 
 alike : (w x : World) → lineAt w ≡ lineAt x → Alike w x
 alike w x e = record { volumes = λ s p. ap (volume s p) e; queues = λ s p. ap (queue s p) e }
@@ -75,7 +80,9 @@ module _ (c : Config) (ws : List ℕ) (sg : List Segment) where
         last = ap (λ (x : View). lastOf (x .status)) (f .stands .view);
         status = ap (λ (x : View). x .status) (f .stands .view);
         snapshots = e;
-        start = λ z. ap (λ (k : ℕ). segmentAt (after ks .segments) (k - 1) .«start_seq») (sym e) ∙ f .stands .start (omega (arith, e, z));
+        start = λ z.
+            let some : 0 < after ks .book .segments = omega (arith, e, z) in
+            ap (λ (k : ℕ). segmentAt (after ks .segments) (k - 1) .«start_seq») (sym e) ∙ last-at (after ks .segments) (after ks .book .segments) some ∙ f .stands .start some;
       }
 
   read-facts : (ks : List Call) → Lendable (length ws) (length sg) ks → Read (c .rules) (after ks) (feedAll c fresh ks)
