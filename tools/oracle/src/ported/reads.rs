@@ -85,8 +85,9 @@ struct Lending {
     block: Block,
     /// So many words of the block are lent.
     state: usize,
-    /// The estimate that is read.
+    /// The estimate that is read, with guards behind it, and how many of its words are lent.
     estimate: Vec<u64>,
+    estimate_lent: usize,
     side: u64,
     /// The slice of a fixed size that is written.
     fixed: usize,
@@ -147,13 +148,11 @@ impl Asked<'_> {
     /// As much as the call asks for, or more.
     fn lending(&self, random: &mut Random) -> Lending {
         let mut more = || random.below(GUARDS as u64 + 1) as usize;
-        let words = exported::ESTIMATE_WORDS + more();
         Lending {
             block: self.book.block,
             state: port::BLOCK_WORDS + more(),
-            estimate: self
-                .held
-                .map_or(vec![], |held| held.words[..words].to_vec()),
+            estimate: self.held.map_or(vec![], |held| held.words.clone()),
+            estimate_lent: exported::ESTIMATE_WORDS + more(),
             side: side_of(self.act).map_or(0, word_of),
             fixed: fixed_words(self.act).map_or(0, |words| words + more()),
             output: match listed_words(self.act) {
@@ -172,7 +171,7 @@ impl Asked<'_> {
         let mut ahead = Guarded::fresh(AHEAD_SEED, if_lent(listed, lending.output));
         let mut out = Guarded::fresh(FIXED_SEED, lending.fixed as u64);
         let state = &lending.block[..lending.state];
-        let before = Kept::of(state);
+        let before = Kept::of(&lending.block);
         let answer = self.book.read(self.lent, |rows| {
             let out = out.lent();
             match *self.act {
@@ -190,7 +189,7 @@ impl Asked<'_> {
                 _ => self.level_read(lending, rows, (scratch.lent(), output.lent(), out)),
             }
         });
-        assert!(before.holds(state), "a read wrote into the state");
+        assert!(before.holds(&lending.block), "a read wrote into the state");
         Done {
             answer,
             scratch: scratch.back(),
@@ -227,8 +226,9 @@ impl Asked<'_> {
         let memories = [&lending.estimate, &held.list];
         let before = memories.map(|memory| Kept::of(memory));
         let state = &lending.block[..lending.state];
+        let estimate = &lending.estimate[..lending.estimate_lent];
         let list = &held.list[..self.lent_list(held)];
-        let answer = exported::volume_ahead(state, rows, &lending.estimate, list, out);
+        let answer = exported::volume_ahead(state, rows, estimate, list, out);
         for (before, memory) in before.iter().zip(memories) {
             assert!(before.holds(memory), "a read wrote into the estimate");
         }
@@ -255,7 +255,9 @@ impl Asked<'_> {
         self.spoil_input(&mut lending, &mut trial, random);
         self.shorten_output(&mut lending, &mut trial, random);
         let given = Given {
-            estimate: self.held.map(|_| &lending.estimate[..]),
+            estimate: self
+                .held
+                .map(|_| &lending.estimate[..lending.estimate_lent]),
             side: side_of(self.act).map(|_| lending.side),
             output_short: lending.fixed < fixed_words(self.act).unwrap_or(0)
                 || lending.output < need,
@@ -301,8 +303,7 @@ impl Asked<'_> {
             trial.met(Part::Value, what);
         }
         if amiss::drawn(random) {
-            let words = amiss::short(exported::ESTIMATE_WORDS, random);
-            lending.estimate.truncate(words);
+            lending.estimate_lent = amiss::short(exported::ESTIMATE_WORDS, random);
             trial.met(Part::Input, "estimate short");
         }
     }

@@ -20,11 +20,16 @@ pub struct Asked<'a> {
     pub trials: u64,
 }
 
-/// Calls `function` with a state and room for words, some of `out`; the state must stay.
-fn call(state: &[u64], out: &mut [u64], function: impl FnOnce(&[u64], &mut [u64]) -> u64) -> u64 {
-    let before = Kept::of(state);
-    let answer = function(state, out);
-    assert!(before.holds(state), "a read wrote into the state");
+/// Calls `function` with the first words of a block and room for words, some of `out`; the whole block must stay.
+fn call(
+    block: &Block,
+    lent: usize,
+    out: &mut [u64],
+    function: impl FnOnce(&[u64], &mut [u64]) -> u64,
+) -> u64 {
+    let before = Kept::of(block);
+    let answer = function(&block[..lent], out);
+    assert!(before.holds(block), "a read wrote into the state");
     answer
 }
 
@@ -39,8 +44,8 @@ impl Asked<'_> {
         let fresh: [u64; ROOM] = std::array::from_fn(|_| random.word());
         let mut out = fresh;
         let mut more = || random.below(GUARDS as u64 + 1) as usize;
-        let (state, room) = (&self.block[..BLOCK_WORDS + more()], N + more());
-        let answer = call(state, &mut out[..room], &function);
+        let (lent, room) = (BLOCK_WORDS + more(), N + more());
+        let answer = call(self.block, lent, &mut out[..room], &function);
         let written = match answer {
             0 => N,
             NO_STALE => 0,
@@ -78,7 +83,8 @@ impl Asked<'_> {
         };
         let fresh: [u64; ROOM] = std::array::from_fn(|_| random.word());
         let mut out = fresh;
-        let answer = call(trial.state(), &mut out[..room], function);
+        let lent = trial.extent.state;
+        let answer = call(&trial.block, lent, &mut out[..room], function);
         assert_eq!((answer, out), (number, fresh), "{}: a trial", self.call);
     }
 }
