@@ -93,6 +93,10 @@ module _ (c : Config) (ws : List ℕ) (sg : List Segment) where
         profile-answers = λ h n sc e s out k. profile-answers c (length ws) (length sg) w v f n sc e h s out k;
         last-answers = λ h n e. last-answers c (length ws) (length sg) w v f n h e;
         turned-away = λ h n. turned-away c (length ws) (length sg) w v f n h;
+        stale-read = λ n sc s out k h.
+            stale-said-of (w .book) (w .rows) n sc s out k h
+            ∙ figures-are ks l s (prices s (lineAt w))
+            ∙ ap (λ (x : List Entry). figuresOf s (prices s x) (feedAll c fresh ks .figure)) (ledger-line ks l);
         stale-answers = λ h n sc e s out k. stale-answers c (length ws) (length sg) w v f n sc e h s out k;
       }
 

@@ -129,6 +129,10 @@ pub record Read (v : VenueRules) (w : World) (l : Ledger) : Type 0 where
       → lastSequence ceiling (w .book) (take n (w .rows)) ≡ views.Valid (lastOf (l .view .status))
   -- "From the message that invalidated the book to the next accepted snapshot": the ledger is invalid
   pub turned-away : ledgerStanding l ≡ invalid → (n : ℕ) → TurnedAway v (w .book) (take n (w .rows))
+  -- the stale one: what it shows are the ledger's figures, which 20 to 44 leave as they stood
+  pub stale-read : (n : ℕ) (sc : List ℕ) (s : L3Side) (out : List ℕ) (k : ℕ)
+      → staleL2 ceiling (w .book) (take n (w .rows)) sc s out .answer ≡ stales.Shown (Entries k)
+      → l2Said (take (2 * k) (staleL2 ceiling (w .book) (take n (w .rows)) sc s out .out)) ≡ figuresOf s (prices s (l .view .line)) (l .figure)
   pub stale-answers : ledgerStanding l ≡ invalid → (n : ℕ) (sc : List ℕ) → Enough v (length (take n (w .rows))) (length sc) → (s : L3Side) (out : List ℕ)
       → 2 * length (prices s (l .view .line)) ≤ length out
       → staleL2 ceiling (w .book) (take n (w .rows)) sc s out .answer ≡ stales.Shown (Entries (length (prices s (l .view .line))))
