@@ -1,27 +1,49 @@
-use mathlib.Core.List.{[], _∷_}
-use mathlib.Core.Path.{refl, _∙_, ap}
-use lib.ListN.{length}
+use Prim.Native.Nat.{ℕ}
+use Rattle.host_reads.specs.Answers.{Answered, answered, toldIn}
+use Rattle.piece.specs.Piece.{pieceNumber, readMessage}
+use Rattle.piece.specs.Words.{messageWords, readMessageTold}
+use Rattle.host_pieces.proofs.Told.{given-none, given-all, length-message, piece-refused}
+use mathlib.Core.List.{[], _∷_, _++_}
+use mathlib.Core.Path.{_≡_, refl, sym, ap, _∙_}
+use lib.ListN.{length, drop}
 use denote.Ref.{now}
-use borrow.Author.Tests.{lt-ltb, le-ltb}
 use borrow.Author.Needs.{needs}
 use Rattle.host_words.proofs.Puts.{length-event, two-puts}
 use Rattle.host_pieces.proofs.read_message.Statement.{statement}
 use Rattle.host_pieces.proofs.read_message.Tie as tie
 
 returns : tie.Need-returns
-returns c = rw (← c .before .before .before .before .read-message .ensures .0, c .before .before .m .given .1, lt-ltb (length (now (c .before .before .before .before .before .before .before .args .out))) 21 (c .if1 .taken)) (refl, refl)
+returns c =
+    let k-read-message = c .before .before .before .before in
+    let k-start = k-read-message .before .before .before in
+    let t : toldIn (readMessageTold (readMessage (now (k-start .args .bytes)))) (now (k-start .args .out)) ≡ answered 7 (now (k-start .args .out)) =
+    ap (λ x. toldIn (readMessageTold x) (now (k-start .args .out))) (sym (k-read-message .read-message .ensures .0) ∙ c .before .before .m .given .1) ∙ given-none (messageWords (c .before .before .m .given .0 .0)) (now (k-start .args .out)) 21 (length-message (c .before .before .m .given .0 .0)) (c .if1 .taken) in
+    (ap (λ (x : Answered). x .number) (sym t), ap (λ (x : Answered). x .out) (sym t))
 
 returns-2 : tie.Need-returns-2
 returns-2 c =
-    let m = c .before .before .before .before .before .before .before .before .before .before .before .before .before .before .before .m .given .0 .0 in
-    let header = c .before .before .before .before .before .before .before .before .before .before .kind-word .result ∷ m .«product_id» .high ∷ m .«product_id» .low ∷ m .sequence ∷ m .«time_us» ∷ [] in
-    let sized = ap length (c .before .before .before .before .event-words .ensures) ∙ length-event (m .event) in
-    let both = two-puts (now (c .before .before .before .before .before .before .before .before .before .before .before .before .before .before .before .before .before .before .before .before .args .out)) (c .before .before .before .before .before .before .before .before .put .last .0) header (c .before .before .before .before .event-words .result) (c .before .before .before .before .before .before .before .before .put .ensures) refl sized in
-    rw (← c .before .before .before .before .before .before .before .before .before .before .before .before .before .before .before .before .before .read-message .ensures .0, c .before .before .before .before .before .before .before .before .before .before .before .before .before .before .before .m .given .1, le-ltb (length (now (c .before .before .before .before .before .before .before .before .before .before .before .before .before .before .before .before .before .before .before .before .args .out))) 21 (c .before .before .before .before .before .before .before .before .before .before .before .before .before .if1 .left))
-    (refl, c .before .before .put2 .ensures ∙ both ∙ rw (c .before .before .before .before .event-words .ensures, c .before .before .before .before .before .before .before .before .before .before .kind-word .ensures))
+    let k-event-words = c .before .before .before .before in
+    let k-put = k-event-words .before .before .before .before in
+    let k-kind-word = k-put .before .before in
+    let k-if1 = k-kind-word .before .before .before in
+    let k-m = k-if1 .before .before in
+    let k-read-message = k-m .before .before in
+    let k-start = k-read-message .before .before .before in
+    let m = k-m .m .given .0 .0 in
+    let header = k-kind-word .kind-word .result ∷ m .«product_id» .high ∷ m .«product_id» .low ∷ m .sequence ∷ m .«time_us» ∷ [] in
+    let sized = ap length (k-event-words .event-words .ensures) ∙ length-event (m .event) in
+    let pair = two-puts (now (k-start .args .out)) (k-put .put .last .0) header (k-event-words .event-words .result) (k-put .put .ensures) refl sized in
+    let t : toldIn (readMessageTold (readMessage (now (k-start .args .bytes)))) (now (k-start .args .out)) ≡ answered 0 (messageWords m ++ drop 21 (now (k-start .args .out))) =
+    ap (λ x. toldIn (readMessageTold x) (now (k-start .args .out))) (sym (k-read-message .read-message .ensures .0) ∙ k-m .m .given .1) ∙ given-all (messageWords m) (now (k-start .args .out)) 21 (length-message m) (k-if1 .if1 .left) in
+    (ap (λ (x : Answered). x .number) (sym t), (c .before .before .put2 .ensures ∙ pair ∙ rw (k-event-words .event-words .ensures, k-kind-word .kind-word .ensures)) ∙ ap (λ (x : Answered). x .out) (sym t))
 
 returns-3 : tie.Need-returns-3
-returns-3 c = rw (← c .before .before .before .before .read-message .ensures .0, c .before .before .e .given .1) (c .number .ensures, refl)
+returns-3 c =
+    let k-read-message = c .before .before .before .before in
+    let k-start = k-read-message .before .before .before in
+    let t : toldIn (readMessageTold (readMessage (now (k-start .args .bytes)))) (now (k-start .args .out)) ≡ answered (pieceNumber (c .before .before .e .given .0 .0)) (now (k-start .args .out)) =
+    ap (λ x. toldIn (readMessageTold x) (now (k-start .args .out))) (sym (k-read-message .read-message .ensures .0) ∙ c .before .before .e .given .1) ∙ piece-refused (c .before .before .e .given .0 .0) (now (k-start .args .out)) in
+    (c .number .ensures ∙ ap (λ (x : Answered). x .number) (sym t), ap (λ (x : Answered). x .out) (sym t))
 
 pub read-message-spec : {M : Type 1} → statement M
 read-message-spec =
