@@ -19,7 +19,7 @@ use Rattle.reconstructor_reads.specs.declared.StaleAnswer.{StaleAnswer}
 use Rattle.reconstructor_reads.specs.Numbers.{shownTold, levelTold, staleTold}
 use Rattle.reconstructor_reads.specs.Reads.{Shows, shows, LevelRead, leaves, levelRead, StaleRead, leavesStale, staleRead}
 use Rattle.host_reads.specs.Answers.{Answered, answered, toldIn, lastly}
-use Rattle.host_views.specs.Views.{LevelCall, levelCalled, afterLevel, afterStale}
+use Rattle.host_views.specs.Views.{levelCalled, afterLevel, afterStale}
 
 module _ (k : ℕ) (sc out count sc₀ out₀ count₀ : List ℕ) (h : 1 ≤ length count₀) where
   pub level-stored : (a : LevelAnswer) (r : LevelRead) → answered k count ≡ toldIn (levelTold a) count₀ → leaves a sc out ≡ r

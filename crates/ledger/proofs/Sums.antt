@@ -3,7 +3,7 @@
 use Prim.Native.Nat.{ℕ, zero, suc, _+_, _*_, _≤_}
 use native.Mathlib.Omega.{arith}
 use mathlib.Core.Bool.{Bool, true, false, _&&_, cond}
-use mathlib.Core.Path.{_≡_, refl, sym, ap, subst, _∙_}
+use mathlib.Core.Path.{_≡_, sym, subst}
 use mathlib.Core.List.{List, [], _∷_}
 use lib.ListN.{length, take}
 use Rattle.laws.proofs.Bools.{and-yes}
@@ -11,14 +11,14 @@ use Rattle.message.specs.declared.L3Side.{L3Side}
 use Rattle.message.specs.declared.L3Snapshot.{L3Snapshot}
 use Rattle.message.specs.Values.{amountLimit, inRange, orderInRange, ordersInRange}
 use Rattle.message.proofs.Amounts.{in-range-most}
-use Rattle.piece.specs.declared.ReadSnapshot.the-variants.{Snapshot, Refused}
-use Rattle.piece.specs.declared.PieceError.the-variants as pieces
-use Rattle.piece.specs.Piece.{bidsAt, asksAt, productIdAt, wordAt, orderAt, ordersFrom, snapshotShaped, snapshotOf, readSnapshot}
+use Rattle.piece.specs.declared.ReadSnapshot.the-variants.{Snapshot}
+use Rattle.piece.specs.Piece.{orderAt, ordersFrom, readSnapshot}
 use Rattle.book.specs.Line.{Entry, sameLevel, volume}
 use Rattle.book.specs.Rows.{ceiling}
 use Rattle.reconstructor_bootstrap.specs.Snapshot.{snapshotLine}
 use Rattle.reconstructor_bootstrap.specs.Places.{entryAt, entriesFrom}
 use Rattle.reconstructor_bootstrap.proofs.Places.{line-places}
+use Rattle.reconstructor_bootstrap.proofs.Laws.{read-ranged}
 use Rattle.reconstructor_bootstrap.proofs.Whole.{length-snapshot}
 
 -- every order is of an amount in range
@@ -43,23 +43,6 @@ entries-small bids bytes i (suc k) h =
     let a = and-yes (inRange (orderAt bytes i .price) && inRange (orderAt bytes i .size)) (ordersInRange (ordersFrom bytes (i + 1) k)) h in
     let b = and-yes (inRange (orderAt bytes i .price)) (inRange (orderAt bytes i .size)) (a .0) in
     (in-range-most (orderAt bytes i .size) (b .1), entries-small bids bytes (i + 1) k (a .1))
-
--- 5 is not said of it
-read-ranged : (bytes : List ℕ) (s : L3Snapshot) → readSnapshot bytes ≡ Snapshot s → ordersInRange (ordersFrom bytes 0 (s .bids + s .asks)) ≡ true
-unfolding readSnapshot snapshotOf
-read-ranged bytes s h = go (snapshotShaped bytes) (ordersInRange (ordersFrom bytes 0 (bidsAt bytes + asksAt bytes))) refl h
-  where
-    found : L3Snapshot
-    found = record { «product_id» = productIdAt bytes 1; sequence = wordAt bytes 17; bids = bidsAt bytes; asks = asksAt bytes }
-
-    go : (x y : Bool) → ordersInRange (ordersFrom bytes 0 (bidsAt bytes + asksAt bytes)) ≡ y
-        → cond x (cond y (Snapshot found) (Refused pieces.OutOfRange)) (Refused pieces.NotAPiece) ≡ Snapshot s
-        → ordersInRange (ordersFrom bytes 0 (s .bids + s .asks)) ≡ true
-    go false y e q = let z : _≡_ {A = ℕ} 0 1 = cc in absurd (omega arith)
-    go true false e q = let z : _≡_ {A = ℕ} 0 1 = cc in absurd (omega arith)
-    go true true e q =
-        let f : found ≡ s = cc in
-        ap (λ (t : L3Snapshot). ordersInRange (ordersFrom bytes 0 (t .bids + t .asks))) (sym f) ∙ e
 
 pub sums-on-the-way : (bytes : List ℕ) (x : L3Snapshot) → readSnapshot bytes ≡ Snapshot x → x .bids + x .asks ≤ ceiling → (n : ℕ) (s : L3Side) (p : ℕ)
     → volume s p (take n (snapshotLine x bytes)) ≤ 4096000000000000000

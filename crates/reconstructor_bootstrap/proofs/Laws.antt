@@ -67,7 +67,7 @@ ranged bids bytes i (suc k) h p =
     (or-both _ _ (e .1) (le-ltb amountLimit (natOf (orderAt bytes i .size)) (in-range-most (orderAt bytes i .size) (b .1)))))
     (ranged bids bytes (i + 1) k (a .1) (d .1))
 
-read-ranged : (bytes : List ℕ) (s : L3Snapshot) → readSnapshot bytes ≡ Snapshot s → ordersInRange (ordersFrom bytes 0 (s .bids + s .asks)) ≡ true
+pub read-ranged : (bytes : List ℕ) (s : L3Snapshot) → readSnapshot bytes ≡ Snapshot s → ordersInRange (ordersFrom bytes 0 (s .bids + s .asks)) ≡ true
 unfolding readSnapshot snapshotOf
 read-ranged bytes s h = go (snapshotShaped bytes) (ordersInRange (ordersFrom bytes 0 (bidsAt bytes + asksAt bytes))) refl h
   where

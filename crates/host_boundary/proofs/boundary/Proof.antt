@@ -6,45 +6,27 @@ use Rattle.host_boundary.specs.Boundary.{boundary}
 use borrow.Author.Needs.{needs}
 use Rattle.host_boundary.proofs.boundary.Statement.{statement}
 use Rattle.host_boundary.proofs.boundary.Tie as tie
-use Rattle.host_boundary.proofs.boundary.Reads as reads
-use Rattle.host_boundary.proofs.boundary.Lts as lts
-use Rattle.host_boundary.proofs.no_book.Reads as no-book-reads
-use Rattle.host_boundary.proofs.no_book_number.Reads as no-book-number-reads
-use Rattle.host_words.proofs.load_rules.Reads as load-rules-reads
 
--- src/lib.rt:123:9
 returns : tie.Need-returns
 unfolding boundary
 returns c = rw (c .if1 .taken)
 
--- src/lib.rt:126:9
 returns-2 : tie.Need-returns-2
 unfolding boundary
 returns-2 c = rw (c .before .if1 .left, c .if2 .taken)
 
--- src/lib.rt:128:9
-no-book-requires : tie.Need-no-book-requires
-no-book-requires c κs = search needs
-
--- src/lib.rt:129:9
 returns-3 : tie.Need-returns-3
 unfolding boundary
 returns-3 c =
     let k-if1 = c .before .before .before in
     rw (k-if1 .if1 .left, c .before .before .if2 .left, ← c .before .no-book .ensures, not-true (c .before .no-book .result) (c .if3 .taken))
 
--- src/lib.rt:131:20
 load-rules-requires : tie.Need-load-rules-requires
 load-rules-requires c κs =
     let k-if1 = c .before .before .before in
     let k-start = k-if1 .before .before in
     ltb-false (length (k-start .args .state .now)) 27 (or-no (ltb (length (k-start .args .state .now)) 27) (k-start .args .short) (k-if1 .if1 .left) .0)
 
--- src/lib.rt:131:5
-no-book-number-requires : tie.Need-no-book-number-requires
-no-book-number-requires c κs = search needs
-
--- src/lib.rt:119:1
 returns-4 : tie.Need-returns-4
 unfolding boundary
 returns-4 c =
@@ -59,8 +41,8 @@ boundary-spec =
     (tie.spec
     returns
     returns-2
-    no-book-requires
+    (λ c κs. search needs)
     returns-3
     load-rules-requires
-    no-book-number-requires
+    (λ c κs. search needs)
     returns-4)

@@ -6,33 +6,22 @@ use Rattle.host_boundary.specs.Boundary.{noBookNumber}
 use borrow.Author.Needs.{needs}
 use Rattle.host_boundary.proofs.no_book_number.Statement.{statement}
 use Rattle.host_boundary.proofs.no_book_number.Tie as tie
-use Rattle.host_boundary.proofs.no_book_number.Reads as reads
-use Rattle.host_boundary.proofs.no_book_number.Lts as lts
-use Rattle.reconstructor_checks.proofs.over_ceiling.Reads as over-ceiling-reads
 
--- src/lib.rt:94:8
-over-ceiling-requires : tie.Need-over-ceiling-requires
-over-ceiling-requires c κs = search needs
-
--- src/lib.rt:95:9
 returns : tie.Need-returns
 unfolding noBookNumber
 returns c = rw (← c .before .over-ceiling .ensures, c .if1 .taken)
 
--- src/lib.rt:97:16
 mul-if2 : tie.Need-mul-if2
 mul-if2 c =
     let k-start = c .before .before .before in
     let m = orders-within ceiling (k-start .args .rules) (sym (c .before .before .over-ceiling .ensures) ∙ c .before .if1 .left) in omega arith
 
--- src/lib.rt:98:9
 returns-2 : tie.Need-returns-2
 unfolding noBookNumber
 returns-2 c =
     let k-over-ceiling = c .before .before .before in
     rw (← k-over-ceiling .over-ceiling .ensures, c .before .before .if1 .left, c .if2 .taken)
 
--- src/lib.rt:91:1
 returns-3 : tie.Need-returns-3
 unfolding noBookNumber
 returns-3 c =
@@ -41,4 +30,4 @@ returns-3 c =
 
 pub no-book-number-spec : {M : Type 1} → statement M
 no-book-number-spec =
-    tie.close (tie.spec over-ceiling-requires returns mul-if2 returns-2 returns-3)
+    tie.close (tie.spec (λ c κs. search needs) returns mul-if2 returns-2 returns-3)

@@ -1,14 +1,10 @@
 use borrow.Author.Tests.{eq-eqb, ne-eqb}
 use Rattle.host_boundary.proofs.no_reason.Statement.{statement}
 use Rattle.host_boundary.proofs.no_reason.Tie as tie
-use Rattle.host_boundary.proofs.no_reason.Reads as reads
-use Rattle.host_boundary.proofs.no_reason.Lts as lts
 
--- src/lib.rt:77:9
 returns : tie.Need-returns
 returns c = rw (eq-eqb _ _ (c .if1 .taken))
 
--- src/lib.rt:73:1
 returns-2 : tie.Need-returns-2
 returns-2 c = rw (ne-eqb _ _ (c .if1 .left))
 

@@ -4,27 +4,17 @@ use Rattle.host_boundary.specs.Boundary.{ownBoundary}
 use borrow.Author.Needs.{needs}
 use Rattle.host_boundary.proofs.own_boundary.Statement.{statement}
 use Rattle.host_boundary.proofs.own_boundary.Tie as tie
-use Rattle.host_boundary.proofs.own_boundary.Reads as reads
-use Rattle.host_boundary.proofs.own_boundary.Lts as lts
-use Rattle.host_boundary.proofs.no_book.Reads as no-book-reads
 
--- src/lib.rt:139:9
 returns : tie.Need-returns
 unfolding ownBoundary
 returns c = rw (lt-ltb (length (c .before .before .args .state .now)) 27 (c .if1 .taken))
 
--- src/lib.rt:141:8
-no-book-requires : tie.Need-no-book-requires
-no-book-requires c κs = search needs
-
--- src/lib.rt:142:9
 returns-2 : tie.Need-returns-2
 unfolding ownBoundary
 returns-2 c =
     let k-start = c .before .before .before .before in
     rw (le-ltb (length (k-start .args .state .now)) 27 (c .before .before .if1 .left), ← c .before .no-book .ensures, c .if2 .taken)
 
--- src/lib.rt:135:1
 returns-3 : tie.Need-returns-3
 unfolding ownBoundary
 returns-3 c =
@@ -32,4 +22,4 @@ returns-3 c =
     rw (le-ltb (length (k-start .args .state .now)) 27 (c .before .before .if1 .left), ← c .before .no-book .ensures, c .if2 .left)
 
 pub own-boundary-spec : {M : Type 1} → statement M
-own-boundary-spec = tie.close (tie.spec returns no-book-requires returns-2 returns-3)
+own-boundary-spec = tie.close (tie.spec returns (λ c κs. search needs) returns-2 returns-3)

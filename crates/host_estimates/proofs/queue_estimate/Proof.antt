@@ -1,9 +1,8 @@
-use mathlib.Core.Path.{_≡_, sym, ap, ap₂, _∙_}
+use mathlib.Core.Path.{sym, ap, _∙_}
 use Prim.Native.Nat.{ℕ}
 use mathlib.Core.Bool.{Bool, false}
 use borrow.Author.Tests.{eq-eqb}
-use lib.ListN.{length, getD}
-use lib.Dec.{ltb}
+use lib.ListN.{length}
 use mir.Syntax.{w64}
 use mir.Val.{toZ}
 use Rattle.piece.specs.Piece.{sideOf}
@@ -15,43 +14,18 @@ use Rattle.host_estimates.proofs.Stored.{estimate-stored, estimate-unwr
 use borrow.Author.Needs.{needs}
 use Rattle.host_estimates.proofs.queue_estimate.Statement.{statement}
 use Rattle.host_estimates.proofs.queue_estimate.Tie as tie
-use Rattle.host_estimates.proofs.queue_estimate.Reads as reads
-use Rattle.host_estimates.proofs.queue_estimate.Lts as lts
-use Rattle.host_boundary.proofs.boundary.Reads as boundary-reads
-use Rattle.host_boundary.proofs.no_bit.Reads as no-bit-reads
-use Rattle.host_reads.proofs.store_estimate.Reads as store-estimate-reads
-use Rattle.host_reads.proofs.unwritten.Reads as unwritten-reads
-use Rattle.host_words.proofs.load_book.Reads as load-book-reads
-use Rattle.host_words.proofs.load_side.Reads as load-side-reads
-use Rattle.host_words.proofs.signed.Reads as signed-reads
-use Rattle.queue.proofs.queue_estimate.Reads as queue-estimate-reads
 
--- src/lib.rt:27:58
-no-bit-requires : tie.Need-no-bit-requires
-no-bit-requires c κs = search needs
-
--- src/lib.rt:27:9
-boundary-requires : tie.Need-boundary-requires
-boundary-requires c κs = search needs
-
--- src/lib.rt:29:9
 returns : tie.Need-returns
 unfolding estimateCall
 returns c =
     let k-start = c .before .before .before .before .before .before .before in
     turned-away _ _ (λ (n : ℕ). estimateCalled n (k-start .args .ahead .now) (k-start .args .estimate .now)) _ (c .before .boundary .ensures ∙ ap (λ (y : Bool). boundary (k-start .args .state .now) (length (k-start .args .rows .now)) false false y) (c .before .before .no-bit .ensures)) (c .if1 .taken)
 
--- src/lib.rt:31:9
 load-book-requires : tie.Need-load-book-requires
 load-book-requires c κs =
     let k-start = c .before .before .before .before .before .before .before in
     passed (k-start .args .state .now) (length (k-start .args .rows .now)) false false (noBit (k-start .args .side)) (eq-eqb _ _ (sym (c .before .boundary .ensures ∙ ap (λ (y : Bool). boundary (k-start .args .state .now) (length (k-start .args .rows .now)) false false y) (c .before .before .no-bit .ensures)) ∙ c .if1 .left)) .whole
 
--- src/lib.rt:33:9
-unwritten-requires : tie.Need-unwritten-requires
-unwritten-requires c κs = search needs
-
--- src/lib.rt:33:9
 returns-2 : tie.Need-returns-2
 unfolding estimateCall
 returns-2 c =
@@ -62,31 +36,6 @@ returns-2 c =
     goes-on _ _ (λ (n : ℕ). estimateCalled n (k-start .args .ahead .now) (k-start .args .estimate .now)) _ _ (k-boundary .boundary .ensures ∙ ap (λ (y : Bool). boundary (k-start .args .state .now) (length (k-start .args .rows .now)) false false y) (k-no-bit .no-bit .ensures)) (k-if1 .if1 .left)
     (rw (← c .before .before .load-book .ensures) (estimate-unwritten _ (k-start .args .ahead .now) (k-start .args .estimate .now) (c .before .before .load-book .result) (k-start .args .rows .now) (sideOf (k-start .args .side)) (toZ w64 (k-start .args .price)) (c .before .if2 .taken) (c .unwritten .ensures)))
 
--- src/lib.rt:35:52
-load-side-requires : tie.Need-load-side-requires
-load-side-requires c κs = search needs
-
--- src/lib.rt:35:69
-signed-requires : tie.Need-signed-requires
-signed-requires c κs = search needs
-
--- src/lib.rt:35:9
-queue-estimate-requires : tie.Need-queue-estimate-requires
-queue-estimate-requires c κs = search needs
-
--- src/lib.rt:36:5
-store-estimate-requires : tie.Need-store-estimate-requires
-store-estimate-requires c κs = search needs
-
--- src/lib.rt:17:1
-same-length : tie.Need-same-length
-same-length c = search needs
-
--- src/lib.rt:17:1
-same-length-2 : tie.Need-same-length-2
-same-length-2 c = search needs
-
--- src/lib.rt:17:1
 returns-3 : tie.Need-returns-3
 unfolding estimateCall
 returns-3 c =
@@ -106,16 +55,16 @@ pub queue-estimate-spec : {M : Type 1} → statement M
 queue-estimate-spec =
     tie.close
     (tie.spec
-    no-bit-requires
-    boundary-requires
+    (λ c κs. search needs)
+    (λ c κs. search needs)
     returns
     load-book-requires
-    unwritten-requires
+    (λ c κs. search needs)
     returns-2
-    load-side-requires
-    signed-requires
-    queue-estimate-requires
-    store-estimate-requires
-    same-length
-    same-length-2
+    (λ c κs. search needs)
+    (λ c κs. search needs)
+    (λ c κs. search needs)
+    (λ c κs. search needs)
+    (λ c. search needs)
+    (λ c. search needs)
     returns-3)

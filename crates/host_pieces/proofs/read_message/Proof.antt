@@ -1,4 +1,3 @@
-use Prim.Native.Nat.{ℕ}
 use Rattle.host_reads.specs.Answers.{Answered, answered, toldIn}
 use Rattle.piece.specs.Piece.{pieceNumber, readMessage}
 use Rattle.piece.specs.Words.{messageWords, readMessageTold}

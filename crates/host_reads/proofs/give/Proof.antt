@@ -6,25 +6,12 @@ use Rattle.host_reads.specs.Answers.{answered}
 use borrow.Author.Needs.{needs}
 use Rattle.host_reads.proofs.give.Statement.{statement}
 use Rattle.host_reads.proofs.give.Tie as tie
-use Rattle.host_reads.proofs.give.Reads as reads
-use Rattle.host_reads.proofs.give.Lts as lts
-use Rattle.host_words.proofs.put.Reads as put-reads
 
--- src/lib.rt:39:9
 returns : tie.Need-returns
 returns c =
     let k-start = c .before .before .before in
     rw (lt-ltb (length (k-start .args .out .now)) (length (k-start .args .values .now)) (c .if1 .taken))
 
--- src/lib.rt:41:5
-put-requires : tie.Need-put-requires
-put-requires c κs = search needs
-
--- src/lib.rt:35:1
-same-length : tie.Need-same-length
-same-length c = search needs
-
--- src/lib.rt:35:1
 returns-2 : tie.Need-returns-2
 returns-2 c =
     let k-if1 = c .before .before .before .before in
@@ -32,4 +19,4 @@ returns-2 c =
     rw (le-ltb (length (k-start .args .out .now)) (length (k-start .args .values .now)) (k-if1 .if1 .left)) (ap (answered 0) (rw (zero-add (length (k-start .args .values .now))) at (c .before .before .put .ensures)))
 
 pub give-spec : {M : Type 1} → statement M
-give-spec = tie.close (tie.spec returns put-requires same-length returns-2)
+give-spec = tie.close (tie.spec returns (λ c κs. search needs) (λ c. search needs) returns-2)

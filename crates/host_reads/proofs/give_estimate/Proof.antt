@@ -9,38 +9,7 @@ use mir.Val.{toZ, ofZ}
 use borrow.Author.Needs.{needs}
 use Rattle.host_reads.proofs.give_estimate.Statement.{statement}
 use Rattle.host_reads.proofs.give_estimate.Tie as tie
-use Rattle.host_reads.proofs.give_estimate.Reads as reads
-use Rattle.host_reads.proofs.give_estimate.Lts as lts
-use Rattle.host_reads.proofs.anchor_words.Reads as anchor-words-reads
-use Rattle.host_reads.proofs.give.Reads as give-reads
-use Rattle.host_words.proofs.bits.Reads as bits-reads
-use Rattle.host_words.proofs.side_word.Reads as side-word-reads
 
--- src/lib.rt:185:9
-side-word-requires : tie.Need-side-word-requires
-side-word-requires c κs = search needs
-
--- src/lib.rt:186:9
-bits-requires : tie.Need-bits-requires
-bits-requires c κs = search needs
-
--- src/lib.rt:187:9
-anchor-words-requires : tie.Need-anchor-words-requires
-anchor-words-requires c κs = search needs
-
--- src/lib.rt:190:9
-slice-aggregate-give : tie.Need-slice-aggregate-give
-slice-aggregate-give c = search needs
-
--- src/lib.rt:188:5
-give-requires : tie.Need-give-requires
-give-requires c κs = search needs
-
--- src/lib.rt:179:1
-same-length : tie.Need-same-length
-same-length c = search needs
-
--- src/lib.rt:179:1
 returns : tie.Need-returns
 returns c =
     let b : toZ w64 (ofZ w64 (c .before .before .before .before .before .before .before .before .before .before .before .args .estimate .price)) ≡ c .before .before .before .before .before .before .before .before .before .before .before .args .estimate .price = search needs in
@@ -59,10 +28,10 @@ pub give-estimate-spec : {M : Type 1} → statement M
 give-estimate-spec =
     tie.close
     (tie.spec
-    side-word-requires
-    bits-requires
-    anchor-words-requires
-    slice-aggregate-give
-    give-requires
-    same-length
+    (λ c κs. search needs)
+    (λ c κs. search needs)
+    (λ c κs. search needs)
+    (λ c. search needs)
+    (λ c κs. search needs)
+    (λ c. search needs)
     returns)

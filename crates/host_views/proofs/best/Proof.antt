@@ -1,9 +1,8 @@
-use mathlib.Core.Path.{_≡_, sym, ap, ap₂, _∙_}
+use mathlib.Core.Path.{sym, ap, _∙_}
 use Prim.Native.Nat.{ℕ}
-use mathlib.Core.Bool.{Bool, false}
+use mathlib.Core.Bool.{false}
 use borrow.Author.Tests.{eq-eqb}
-use lib.ListN.{length, getD}
-use lib.Dec.{ltb}
+use lib.ListN.{length}
 use Rattle.host_boundary.proofs.Passed.{passed, turned-away, goes-on}
 use Rattle.reconstructor_view.specs.Numbers.{bestTold}
 use Rattle.host_reads.specs.Answers.{answered, toldIn}
@@ -11,43 +10,18 @@ use Rattle.host_views.specs.Views.{bestCall}
 use borrow.Author.Needs.{needs}
 use Rattle.host_views.proofs.best.Statement.{statement}
 use Rattle.host_views.proofs.best.Tie as tie
-use Rattle.host_views.proofs.best.Reads as reads
-use Rattle.host_views.proofs.best.Lts as lts
-use Rattle.host_boundary.proofs.boundary.Reads as boundary-reads
-use Rattle.host_reads.proofs.store_best.Reads as store-best-reads
-use Rattle.host_words.proofs.load_book.Reads as load-book-reads
-use Rattle.reconstructor_view.proofs.best.Reads as best-reads
 
--- src/lib.rt:47:9
-boundary-requires : tie.Need-boundary-requires
-boundary-requires c κs = search needs
-
--- src/lib.rt:49:9
 returns : tie.Need-returns
 unfolding bestCall
 returns c =
     let k-start = c .before .before .before .before .before in
     turned-away _ _ (λ (n : ℕ). answered n (k-start .args .out .now)) _ (c .before .boundary .ensures) (c .if1 .taken)
 
--- src/lib.rt:51:43
 load-book-requires : tie.Need-load-book-requires
 load-book-requires c κs =
     let k-start = c .before .before .before .before .before in
     passed (k-start .args .state .now) (length (k-start .args .rows .now)) false false false (eq-eqb _ _ (sym (c .before .boundary .ensures) ∙ c .if1 .left)) .whole
 
--- src/lib.rt:51:9
-best-requires : tie.Need-best-requires
-best-requires c κs = search needs
-
--- src/lib.rt:52:5
-store-best-requires : tie.Need-store-best-requires
-store-best-requires c κs = search needs
-
--- src/lib.rt:44:1
-same-length : tie.Need-same-length
-same-length c = search needs
-
--- src/lib.rt:44:1
 returns-2 : tie.Need-returns-2
 unfolding bestCall
 returns-2 c =
@@ -63,10 +37,10 @@ pub best-spec : {M : Type 1} → statement M
 best-spec =
     tie.close
     (tie.spec
-    boundary-requires
+    (λ c κs. search needs)
     returns
     load-book-requires
-    best-requires
-    store-best-requires
-    same-length
+    (λ c κs. search needs)
+    (λ c κs. search needs)
+    (λ c. search needs)
     returns-2)

@@ -1,4 +1,4 @@
-use mathlib.Core.Path.{_≡_, sym, ap, ap₂, _∙_}
+use mathlib.Core.Path.{sym, ap, _∙_}
 use Prim.Native.Nat.{ℕ}
 use mathlib.Core.Bool.{Bool, false}
 use borrow.Author.Tests.{eq-eqb}
@@ -16,42 +16,18 @@ use Rattle.host_views.proofs.Stored.{level-stored, level-unwritten}
 use borrow.Author.Needs.{needs}
 use Rattle.host_views.proofs.priority_profile.Statement.{statement}
 use Rattle.host_views.proofs.priority_profile.Tie as tie
-use Rattle.host_views.proofs.priority_profile.Reads as reads
-use Rattle.host_views.proofs.priority_profile.Lts as lts
-use Rattle.host_reads.proofs.store_level.Reads as store-level-reads
-use Rattle.host_reads.proofs.unwritten.Reads as unwritten-reads
-use Rattle.host_views.proofs.lacks_scratch.Reads as lacks-scratch-reads
-use Rattle.host_views.proofs.level_boundary.Reads as level-boundary-reads
-use Rattle.host_words.proofs.load_book.Reads as load-book-reads
-use Rattle.host_words.proofs.load_side.Reads as load-side-reads
-use Rattle.reconstructor_reads.proofs.priority_profile.Reads as priority-profile-reads
 
--- src/lib.rt:163:9
-level-boundary-requires : tie.Need-level-boundary-requires
-level-boundary-requires c κs = search needs
-
--- src/lib.rt:165:9
 returns : tie.Need-returns
 unfolding profileCall
 returns c =
     let k-start = c .before .before .before .before .before .before .before in
     turned-away _ _ (λ (n : ℕ). levelCalled n (k-start .args .scratch .now) (k-start .args .out .now) (k-start .args .count .now)) _ (c .before .level-boundary .ensures) (c .if1 .taken)
 
--- src/lib.rt:167:9
 load-book-requires : tie.Need-load-book-requires
 load-book-requires c κs =
     let k-start = c .before .before .before .before .before .before .before in
     passed (k-start .args .state .now) (length (k-start .args .rows .now)) (ltb (length (k-start .args .scratch .now)) (getD (k-start .args .state .now) 3 0)) false (noBit (k-start .args .side)) (eq-eqb _ _ (sym (c .before .level-boundary .ensures) ∙ c .if1 .left)) .whole
 
--- src/lib.rt:169:38
-lacks-scratch-requires : tie.Need-lacks-scratch-requires
-lacks-scratch-requires c κs = search needs
-
--- src/lib.rt:169:9
-unwritten-requires : tie.Need-unwritten-requires
-unwritten-requires c κs = search needs
-
--- src/lib.rt:169:9
 returns-2 : tie.Need-returns-2
 unfolding profileCall
 returns-2 c =
@@ -62,31 +38,6 @@ returns-2 c =
     goes-on _ _ (λ (n : ℕ). levelCalled n (k-start .args .scratch .now) (k-start .args .out .now) (k-start .args .count .now)) _ _ (k-level-boundary .level-boundary .ensures) (k-if1 .if1 .left)
     (rw (← k-load-book .load-book .ensures) (level-unwritten _ (k-start .args .scratch .now) (k-start .args .out .now) (k-start .args .count .now) _ (c .before .before .if2 .taken) _ (lastOf (k-load-book .load-book .result .status)) (c .unwritten .ensures ∙ ap (λ (x : Bool). lastly (viewedTold (viewed (bookView ceiling (k-load-book .load-book .result) (k-start .args .rows .now) x) (lastOf (k-load-book .load-book .result .status))) .number)) (c .before .lacks-scratch .ensures))))
 
--- src/lib.rt:171:77
-load-side-requires : tie.Need-load-side-requires
-load-side-requires c κs = search needs
-
--- src/lib.rt:171:9
-priority-profile-requires : tie.Need-priority-profile-requires
-priority-profile-requires c κs = search needs
-
--- src/lib.rt:172:5
-store-level-requires : tie.Need-store-level-requires
-store-level-requires c κs = search needs
-
--- src/lib.rt:153:1
-same-length : tie.Need-same-length
-same-length c = search needs
-
--- src/lib.rt:153:1
-same-length-2 : tie.Need-same-length-2
-same-length-2 c = search needs
-
--- src/lib.rt:153:1
-same-length-3 : tie.Need-same-length-3
-same-length-3 c = search needs
-
--- src/lib.rt:153:1
 returns-3 : tie.Need-returns-3
 unfolding profileCall
 returns-3 c =
@@ -104,16 +55,16 @@ pub priority-profile-spec : {M : Type 1} → statement M
 priority-profile-spec =
     tie.close
     (tie.spec
-    level-boundary-requires
+    (λ c κs. search needs)
     returns
     load-book-requires
-    lacks-scratch-requires
-    unwritten-requires
+    (λ c κs. search needs)
+    (λ c κs. search needs)
     returns-2
-    load-side-requires
-    priority-profile-requires
-    store-level-requires
-    same-length
-    same-length-2
-    same-length-3
+    (λ c κs. search needs)
+    (λ c κs. search needs)
+    (λ c κs. search needs)
+    (λ c. search needs)
+    (λ c. search needs)
+    (λ c. search needs)
     returns-3)

@@ -1,4 +1,4 @@
-use mathlib.Core.Path.{_≡_, sym, ap, ap₂, _∙_}
+use mathlib.Core.Path.{sym, ap, _∙_}
 use Prim.Native.Nat.{ℕ}
 use mathlib.Core.Bool.{Bool, false}
 use borrow.Author.Tests.{eq-eqb}
@@ -18,42 +18,18 @@ use Rattle.host_views.proofs.Stored.{stale-stored, stale-unwritten}
 use borrow.Author.Needs.{needs}
 use Rattle.host_views.proofs.stale_l2.Statement.{statement}
 use Rattle.host_views.proofs.stale_l2.Tie as tie
-use Rattle.host_views.proofs.stale_l2.Reads as reads
-use Rattle.host_views.proofs.stale_l2.Lts as lts
-use Rattle.host_reads.proofs.store_stale.Reads as store-stale-reads
-use Rattle.host_views.proofs.lacks_scratch.Reads as lacks-scratch-reads
-use Rattle.host_views.proofs.level_boundary.Reads as level-boundary-reads
-use Rattle.host_views.proofs.unwritten_stale.Reads as unwritten-stale-reads
-use Rattle.host_words.proofs.load_book.Reads as load-book-reads
-use Rattle.host_words.proofs.load_side.Reads as load-side-reads
-use Rattle.reconstructor_reads.proofs.stale_l2.Reads as stale-l2-reads
 
--- src/lib.rt:207:9
-level-boundary-requires : tie.Need-level-boundary-requires
-level-boundary-requires c κs = search needs
-
--- src/lib.rt:209:9
 returns : tie.Need-returns
 unfolding staleCall
 returns c =
     let k-start = c .before .before .before .before .before .before .before in
     turned-away _ _ (λ (n : ℕ). levelCalled n (k-start .args .scratch .now) (k-start .args .out .now) (k-start .args .count .now)) _ (c .before .level-boundary .ensures) (c .if1 .taken)
 
--- src/lib.rt:211:9
 load-book-requires : tie.Need-load-book-requires
 load-book-requires c κs =
     let k-start = c .before .before .before .before .before .before .before in
     passed (k-start .args .state .now) (length (k-start .args .rows .now)) (ltb (length (k-start .args .scratch .now)) (getD (k-start .args .state .now) 3 0)) false (noBit (k-start .args .side)) (eq-eqb _ _ (sym (c .before .level-boundary .ensures) ∙ c .if1 .left)) .whole
 
--- src/lib.rt:213:44
-lacks-scratch-requires : tie.Need-lacks-scratch-requires
-lacks-scratch-requires c κs = search needs
-
--- src/lib.rt:213:9
-unwritten-stale-requires : tie.Need-unwritten-stale-requires
-unwritten-stale-requires c κs = search needs
-
--- src/lib.rt:213:9
 returns-2 : tie.Need-returns-2
 unfolding staleCall
 returns-2 c =
@@ -64,31 +40,6 @@ returns-2 c =
     goes-on _ _ (λ (n : ℕ). levelCalled n (k-start .args .scratch .now) (k-start .args .out .now) (k-start .args .count .now)) _ _ (k-level-boundary .level-boundary .ensures) (k-if1 .if1 .left)
     (rw (← k-load-book .load-book .ensures) (stale-unwritten _ (k-start .args .scratch .now) (k-start .args .out .now) (k-start .args .count .now) _ (c .before .before .if2 .taken) _ (k-load-book .load-book .result .status) (c .unwritten-stale .ensures ∙ ap (λ (x : Bool). lastly (staleTold (staleRead (stateRead ceiling (k-load-book .load-book .result) (k-start .args .rows .now) x) (k-load-book .load-book .result .status) (shows OutputTooSmall [] []) [] [] .answer) .number)) (c .before .lacks-scratch .ensures))))
 
--- src/lib.rt:215:69
-load-side-requires : tie.Need-load-side-requires
-load-side-requires c κs = search needs
-
--- src/lib.rt:215:9
-stale-l2-requires : tie.Need-stale-l2-requires
-stale-l2-requires c κs = search needs
-
--- src/lib.rt:216:5
-store-stale-requires : tie.Need-store-stale-requires
-store-stale-requires c κs = search needs
-
--- src/lib.rt:197:1
-same-length : tie.Need-same-length
-same-length c = search needs
-
--- src/lib.rt:197:1
-same-length-2 : tie.Need-same-length-2
-same-length-2 c = search needs
-
--- src/lib.rt:197:1
-same-length-3 : tie.Need-same-length-3
-same-length-3 c = search needs
-
--- src/lib.rt:197:1
 returns-3 : tie.Need-returns-3
 unfolding staleCall
 returns-3 c =
@@ -106,16 +57,16 @@ pub stale-l2-spec : {M : Type 1} → statement M
 stale-l2-spec =
     tie.close
     (tie.spec
-    level-boundary-requires
+    (λ c κs. search needs)
     returns
     load-book-requires
-    lacks-scratch-requires
-    unwritten-stale-requires
+    (λ c κs. search needs)
+    (λ c κs. search needs)
     returns-2
-    load-side-requires
-    stale-l2-requires
-    store-stale-requires
-    same-length
-    same-length-2
-    same-length-3
+    (λ c κs. search needs)
+    (λ c κs. search needs)
+    (λ c κs. search needs)
+    (λ c. search needs)
+    (λ c. search needs)
+    (λ c. search needs)
     returns-3)
