@@ -8,7 +8,7 @@ use lib.Dec.{eqb}
 use lib.ListN.{length, set}
 use Rattle.message.specs.declared.L3Event.{L3Event}
 use Rattle.book.specs.declared.Decrease.{Decrease}
-use Rattle.book.specs.Rows.{ceiling, rowAt, rowsOf, lineOf, removeAt, reduced}
+use Rattle.book.specs.Rows.{mostRows, rowAt, rowsOf, lineOf, removeAt, reduced}
 use Rattle.reconstructor_state.specs.declared.VenueRules.{VenueRules}
 use Rattle.reconstructor_counts.specs.declared.Counter.{Counter}
 use Rattle.reconstructor_counts.specs.declared.Counter.the-variants as counters
@@ -24,7 +24,7 @@ use Rattle.reconstructor_plan.specs.Rules.{Deed, eventRefusal, eventDeed
 pub record Ready (ws : List ℕ) (n limit : ℕ) : Type 0 where
   pub few : n ≤ limit
   pub room : 8 * limit ≤ length ws
-  pub small : limit ≤ ceiling
+  pub small : limit ≤ mostRows
 
 -- what committing a plan does to n rows
 abbrev pub deedOf : List ℕ → ℕ → Plan → Deed
@@ -40,7 +40,7 @@ cutPlan at r mark k = cond (eqb r 0) (Remove at k) (Reduce at r mark k)
 -- a plan names a row in use, or there is room for one more
 abbrev pub PlanFits : List ℕ → ℕ → Plan → Type 0
 PlanFits ws n (NoEffect k) = Unit {0}
-PlanFits ws n (Insert o) = (8 * n + 8 ≤ length ws) × (n < ceiling)
+PlanFits ws n (Insert o) = (8 * n + 8 ≤ length ws) × (n < mostRows)
 PlanFits ws n (Reduce at r mark k) = at < n
 PlanFits ws n (Remove at k) = at < n
 

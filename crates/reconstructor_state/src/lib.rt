@@ -5,7 +5,7 @@ use reconstructor_answers::Invalidation;
 use reconstructor_counts::MessageCounts;
 use reconstructor_segments::SegmentName;
 ghost use mathlib.Core.Path.{_≡_};
-ghost use Rattle.reconstructor_state.specs.State.{limitedRules, newBook, withCounts, withStatus, segmentOf};
+ghost use Rattle.reconstructor_state.specs.State.{ceiling, limitedRules, newBook, withCounts, withStatus, segmentOf};
 
 // What a size decrease does to an order's place in its queue.
 pub enum SizeDecrease {
@@ -25,16 +25,14 @@ pub struct VenueRules {
 }
 
 impl VenueRules {
-    // The ceilings: a limit above them is number 1.
-    pub const MAX_ORDERS: usize = 4096;
+    // A limit above it is number 1.
+    pub const CEILING: usize = 4096;
 
-    pub const MAX_LEVELS: usize = 4096;
-
-    // The default rules, at the ceilings.
+    // The default rules, at the ceiling.
     pub fn new() -> Self
-        ensures { λ r. ⌜ r ≡ limitedRules 4096 4096 ⌝ }
+        ensures { λ r. ⌜ r ≡ limitedRules ceiling ceiling ⌝ }
     {
-        Self::with_limits(Self::MAX_ORDERS, Self::MAX_LEVELS)
+        Self::with_limits(Self::CEILING, Self::CEILING)
     }
 
     // The default rules with limits of one's own.
