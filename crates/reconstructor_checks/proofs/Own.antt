@@ -51,6 +51,9 @@ said-none (some d) r p q = let z : _≡_ {A = ℕ} 0 1 = cc in absurd (omega ari
 pub orders-within : (top : ℕ) (v : VenueRules) → overCeiling top v ≡ false → v .«max_orders» ≤ top
 orders-within top v h = ltb-false top (v .«max_orders») (or-no (ltb top (v .«max_orders»)) (ltb top (v .«max_levels»)) h .0)
 
+pub levels-within : (top : ℕ) (v : VenueRules) → overCeiling top v ≡ false → v .«max_levels» ≤ top
+levels-within top v h = ltb-false top (v .«max_levels») (or-no (ltb top (v .«max_orders»)) (ltb top (v .«max_levels»)) h .1)
+
 pub memory-room : (v : VenueRules) (mem : Memory) → memoryShort v (extentOf mem) ≡ false → 8 * v .«max_orders» ≤ length (mem .rows)
 memory-room v mem h = ltb-false (length (mem .rows)) (8 * v .«max_orders») h
 
@@ -113,6 +116,18 @@ usable-none top b mem lent u = goes-on _ _ _ _ (u .within) (goes-on _ _ _ _ (u .
 
 pub trusted : (top : ℕ) (b : BookReconstructor) (mem : Memory) (lent : ℕ) → Usable top b mem lent → Trusted top b mem
 trusted top b mem lent u = record { within = u .within; room = memory-lent b mem lent (u .lent); sound = u .sound }
+
+-- limits within a ceiling are within a higher one
+pub within-wider : (top wide : ℕ) (v : VenueRules) → top ≤ wide → overCeiling top v ≡ false → overCeiling wide v ≡ false
+within-wider top wide v h w =
+    let o = orders-within top v w in
+    let l = levels-within top v w in
+    or-both _ _ (le-ltb wide (v .«max_orders») (omega arith)) (le-ltb wide (v .«max_levels») (omega arith))
+
+-- what a call under any ceiling has tested
+pub trusted-under : (top : ℕ) (b : BookReconstructor) (mem : Memory) (lent : ℕ) → top ≤ mostRows → Usable top b mem lent → Trusted mostRows b mem
+trusted-under top b mem lent h u =
+    record { within = within-wider top mostRows (b .rules) h (u .within); room = memory-lent b mem lent (u .lent); sound = u .sound }
 
 -- its rows are lent, with room for every permitted order
 pub rows-ready : (top : ℕ) (b : BookReconstructor) (mem : Memory) → top ≤ mostRows → Trusted top b mem → Lent (mem .rows) (b .rows)
