@@ -29,7 +29,9 @@ applied-trusted-to top b mem lent g m u = ap (answered b mem g m) (gate-trusted 
 module _ (b : BookReconstructor) (mem : Memory) (sg : List Segment) (m : L3Message) (top : ℕ) where
   -- before any snapshot no record is written
   pub applied-none : b .segments ≡ 0 → applied top b mem sg m .segments ≡ sg
+  unfolding applied
   applied-none e = ap (λ (n : ℕ). relast sg n (appliedTo top b mem (length sg) (lastSegment sg (b .segments)) m .segment)) e
 
   pub applied-trusted : Usable top b mem (length sg) → applied top b mem sg m ≡ putBack sg (b .segments) (trustedTo b mem (lastSegment sg (b .segments)) m)
+  unfolding applied
   applied-trusted u = ap (putBack sg (b .segments)) (applied-trusted-to top b mem (length sg) (lastSegment sg (b .segments)) m u)

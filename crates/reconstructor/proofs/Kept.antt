@@ -51,7 +51,7 @@ module _ (top : ℕ) (b : BookReconstructor) (mem : Memory) (sg : List Segment) 
   -- before its turn a message leaves every lent word, and of the state all but the counts
   pub refusal-leaves : (applied top b mem sg m .answer ≡ a) × (applied top b mem sg m .book ≡ refusedBook b a)
       × (applied top b mem sg m .memory ≡ mem) × (applied top b mem sg m .segments ≡ sg)
-  unfolding appliedTo answered refusedReply
+  unfolding applied appliedTo answered refusedReply
   refusal-leaves = rw h (refl, refl, refl, relast-same sg (b .segments))
 
 pub refusal-counts : (b : BookReconstructor) (a : ApplyAnswer) → refusedBook b a ≡ withCounts b (refusedBook b a .counts)
@@ -90,7 +90,7 @@ answered-stale b mem g m none i h = decided-stale b mem (lastOf (b .status)) m (
 -- "the rows stay as stale book"
 pub stale-rows : (top : ℕ) (b : BookReconstructor) (mem : Memory) (sg : List Segment) (m : L3Message) (i : Invalidation)
     → applied top b mem sg m .answer ≡ answers.Invalidated i → applied top b mem sg m .memory ≡ mem
-unfolding appliedTo
+unfolding applied appliedTo
 stale-rows top b mem sg m i h = answered-stale b mem (lastSegment sg (b .segments)) m (bookGate top b mem (length sg) (lastSegment sg (b .segments)) m) i h
 
 -- ---- a usable state stays usable

@@ -133,5 +133,5 @@ unfoldable pub appliedTo : ℕ → BookReconstructor → Memory → ℕ → Segm
 appliedTo top b mem lent g m = answered b mem g m (bookGate top b mem lent g m)
 
 -- on a lent list; before any snapshot there is no last record
-abbrev pub applied : ℕ → BookReconstructor → Memory → List Segment → L3Message → Parts
+unfoldable pub applied : ℕ → BookReconstructor → Memory → List Segment → L3Message → Parts
 applied top b mem sg m = putBack sg (b .segments) (appliedTo top b mem (length sg) (lastSegment sg (b .segments)) m)

@@ -125,9 +125,11 @@ within-wider top wide v h w =
     or-both _ _ (le-ltb wide (v .«max_orders») (omega arith)) (le-ltb wide (v .«max_levels») (omega arith))
 
 -- what a call under any ceiling has tested
+pub usable-under : (top : ℕ) (b : BookReconstructor) (mem : Memory) (lent : ℕ) → top ≤ mostRows → Usable top b mem lent → Usable mostRows b mem lent
+usable-under top b mem lent h u = record { within = within-wider top mostRows (b .rules) h (u .within); lent = u .lent; sound = u .sound }
+
 pub trusted-under : (top : ℕ) (b : BookReconstructor) (mem : Memory) (lent : ℕ) → top ≤ mostRows → Usable top b mem lent → Trusted mostRows b mem
-trusted-under top b mem lent h u =
-    record { within = within-wider top mostRows (b .rules) h (u .within); room = memory-lent b mem lent (u .lent); sound = u .sound }
+trusted-under top b mem lent h u = trusted mostRows b mem lent (usable-under top b mem lent h u)
 
 -- its rows are lent, with room for every permitted order
 pub rows-ready : (top : ℕ) (b : BookReconstructor) (mem : Memory) → top ≤ mostRows → Trusted top b mem → Lent (mem .rows) (b .rows)

@@ -61,7 +61,7 @@ module _ {M : Type 1} (𝓤 : URA M) (H : Heap 𝓤) (A : Atoms 𝓤) (W : Given
   message = declared 𝓤 H A W Msg.the-type Msg′.the-laws Msg′.the-plain
 
 pub apply-spec : {M : Type 1} → stated.statement M
-unfolding code.routine
+unfolding code.routine applied
 apply-spec 𝓤 H 𝓜 𝓖 𝓡 =
     let A = 𝓖 .A in
     let W = givenOf 𝓤 H 𝓜 𝓖 in
