@@ -9,16 +9,17 @@ use lib.ListN.{length}
 use Rattle.message.specs.declared.L3Side.{L3Side}
 use Rattle.message.specs.Amounts.{natOf}
 use Rattle.book.specs.declared.Resting.{Resting}
-use Rattle.book.specs.Rows.{rowsOf, lineOf}
+use Rattle.book.specs.Rows.{lineOf}
+use Rattle.book.specs.Memory.{Memory, ordersOf}
 use Rattle.book_levels.specs.Levels.{prices, levelsWords, written, zeroed}
 use Rattle.book_queue.specs.declared.EntryForm.the-variants.{Queue}
-use Rattle.book_queue.specs.Queue.{rowsAt, entriesWords}
+use Rattle.book_queue.specs.Queue.{rowsAt, entryWidth, entriesWords}
 use Rattle.reconstructor_state.specs.declared.Status.{Status}
 use Rattle.reconstructor_state.specs.declared.Status.the-variants as statuses
 use Rattle.reconstructor_answers.specs.declared.StateError.{StateError}
 use Rattle.reconstructor_state.specs.declared.BookReconstructor.{BookReconstructor}
 use Rattle.reconstructor_view.specs.declared.ViewError.{ViewError}
-use Rattle.reconstructor_view.specs.View.{stateRead, bookView}
+use Rattle.reconstructor_view.specs.ValueReads.{readRefusalOf, viewRefusalOf}
 use Rattle.reconstructor_reads.specs.declared.Shown.{Shown}
 use Rattle.reconstructor_reads.specs.declared.Shown.the-variants.{Entries, OutputTooSmall}
 use Rattle.reconstructor_reads.specs.declared.LevelAnswer.{LevelAnswer}
@@ -27,6 +28,17 @@ use Rattle.reconstructor_reads.specs.declared.StaleAnswer.{StaleAnswer}
 use Rattle.reconstructor_reads.specs.declared.StaleAnswer.the-variants as stales
 
 -- ---- what is shown
+
+-- 01, Reads, "words an entry": "`level_queue` id high, id low, remaining, 1 if observed else 0, entered_at if observed else 0; `priority_profile` price, total,
+-- unknown; `stale_l2` price, total", and `l2` likewise
+abbrev pub queueWords : ℕ
+queueWords = entryWidth Queue
+
+abbrev pub profileWords : ℕ
+profileWords = 3
+
+abbrev pub l2Words : ℕ
+l2Words = 2
 
 -- the entries of a read, and the words written of them
 pub record Content : Type 0 where
@@ -37,7 +49,7 @@ pub record Content : Type 0 where
 abbrev pub queueContent : L3Side → ℕ → List Resting → Content
 queueContent s p os = record { entries = length (rowsAt s p os); words = entriesWords Queue (rowsAt s p os) }
 
--- the levels of a side, best first: two words each are "price, total", three "price, total, unknown"
+-- the levels of a side, best first, so many words each
 abbrev pub levelsContent : ℕ → L3Side → List Resting → Content
 levelsContent width s os =
     record { entries = length (prices s (lineOf os)); words = levelsWords width s os (prices s (lineOf os)) }
@@ -78,20 +90,20 @@ levelRead none w sc out = leaves (levels.Shown (w .answer)) (w .scratch) (w .out
 abbrev pub scratchShort : BookReconstructor → List ℕ → Bool
 scratchShort b sc = ltb (length sc) (b .rules .«max_orders»)
 
--- a read of some content of the rows
-abbrev pub readOf : ℕ → BookReconstructor → List ℕ → List ℕ → Content → List ℕ → LevelRead
-readOf top b ws sc c out =
-    levelRead (bookView top b ws (scratchShort b sc)) (shown (b .rules .«max_orders») c sc out) sc out
+-- a read of some content of the orders
+abbrev pub readOf : ℕ → BookReconstructor → Memory → List ℕ → Content → List ℕ → LevelRead
+readOf top b mem sc c out =
+    levelRead (viewRefusalOf top b mem (scratchShort b sc)) (shown (b .rules .«max_orders») c sc out) sc out
 
 -- "An absent price gives an empty list": a price that is not above zero is 0 here, which no row has
-abbrev pub levelQueue : ℕ → BookReconstructor → List ℕ → List ℕ → L3Side → ℤ → List ℕ → LevelRead
-levelQueue top b ws sc s z out = readOf top b ws sc (queueContent s (natOf z) (rowsOf ws (b .rows))) out
+abbrev pub levelQueue : ℕ → BookReconstructor → Memory → List ℕ → L3Side → ℤ → List ℕ → LevelRead
+levelQueue top b mem sc s z out = readOf top b mem sc (queueContent s (natOf z) (ordersOf mem (b .rows))) out
 
-abbrev pub priorityProfile : ℕ → BookReconstructor → List ℕ → List ℕ → L3Side → List ℕ → LevelRead
-priorityProfile top b ws sc s out = readOf top b ws sc (levelsContent 3 s (rowsOf ws (b .rows))) out
+abbrev pub priorityProfile : ℕ → BookReconstructor → Memory → List ℕ → L3Side → List ℕ → LevelRead
+priorityProfile top b mem sc s out = readOf top b mem sc (levelsContent profileWords s (ordersOf mem (b .rows))) out
 
-abbrev pub l2 : ℕ → BookReconstructor → List ℕ → List ℕ → L3Side → List ℕ → LevelRead
-l2 top b ws sc s out = readOf top b ws sc (levelsContent 2 s (rowsOf ws (b .rows))) out
+abbrev pub l2 : ℕ → BookReconstructor → Memory → List ℕ → L3Side → List ℕ → LevelRead
+l2 top b mem sc s out = readOf top b mem sc (levelsContent l2Words s (ordersOf mem (b .rows))) out
 
 -- ---- the read of an invalid book
 
@@ -113,9 +125,9 @@ unfoldable pub staleRead : Option StateError → Status → Shows → List ℕ �
 staleRead (some e) s w sc out = leavesStale (stales.Unusable e) sc out
 staleRead none s w sc out = staleStanding s w sc out
 
-abbrev pub staleL2 : ℕ → BookReconstructor → List ℕ → List ℕ → L3Side → List ℕ → StaleRead
-staleL2 top b ws sc s out =
-    staleRead (stateRead top b ws (scratchShort b sc)) (b .status)
-    (shown (b .rules .«max_orders») (levelsContent 2 s (rowsOf ws (b .rows))) sc out)
+abbrev pub staleL2 : ℕ → BookReconstructor → Memory → List ℕ → L3Side → List ℕ → StaleRead
+staleL2 top b mem sc s out =
+    staleRead (readRefusalOf top b mem (scratchShort b sc)) (b .status)
+    (shown (b .rules .«max_orders») (levelsContent l2Words s (ordersOf mem (b .rows))) sc out)
     sc
     out

@@ -1,5 +1,5 @@
 -- Reads of a book: when they are turned away, and those whose answer is a value. 01, Reads: "1, 2, 3, then 15 or 18".
-use Prim.Native.Nat.{ℕ, _+_, _*_}
+use Prim.Native.Nat.{ℕ, _+_}
 use mathlib.Core.Bool.{Bool, false, _||_, cond}
 use mathlib.Core.List.{List}
 use mathlib.Core.Option.{Option, none, some}
@@ -8,7 +8,7 @@ use lib.ListN.{length}
 use Rattle.message.specs.declared.L3Side.the-variants.{Buy, Sell}
 use Rattle.book.specs.declared.Resting.{Resting}
 use Rattle.book.specs.Line.{Entry, best}
-use Rattle.book.specs.Rows.{rowsOf, lineOf}
+use Rattle.book.specs.Memory.{Memory, Extent, extentOf, ordersOf, lineIn}
 use Rattle.book_valid.specs.Audit.{auditRows}
 use Rattle.reconstructor_state.specs.declared.VenueRules.{VenueRules}
 use Rattle.reconstructor_state.specs.declared.Status.{Status}
@@ -17,14 +17,15 @@ use Rattle.reconstructor_answers.specs.declared.StateError.{StateError}
 use Rattle.reconstructor_answers.specs.declared.StateError.the-variants.{LimitAboveCeiling, LentTooShort, MalformedBook}
 use Rattle.reconstructor_state.specs.declared.BookReconstructor.{BookReconstructor}
 use Rattle.reconstructor_state.specs.Checks.{check, first}
+use Rattle.reconstructor_counts.specs.Counts.{largest}
 use Rattle.reconstructor_segments.specs.declared.Segment.{Segment}
 use Rattle.reconstructor_segments.specs.Segments.{segmentAt}
 use Rattle.reconstructor_state.specs.State.{lastOf}
-use Rattle.reconstructor_checks.specs.Own.{overCeiling, broken}
+use Rattle.reconstructor_checks.specs.Own.{overCeiling, memoryShort, broken}
 use Rattle.reconstructor_view.specs.declared.ViewError.{ViewError}
 use Rattle.reconstructor_view.specs.declared.ViewError.the-variants as errors
-use Rattle.reconstructor_view.specs.declared.Viewed.{Viewed}
-use Rattle.reconstructor_view.specs.declared.Viewed.the-variants as views
+use Rattle.reconstructor_view.specs.declared.SequenceAnswer.{SequenceAnswer}
+use Rattle.reconstructor_view.specs.declared.SequenceAnswer.the-variants as sequences
 use Rattle.reconstructor_view.specs.declared.BestAnswer.{BestAnswer}
 use Rattle.reconstructor_view.specs.declared.BestAnswer.the-variants as bests
 use Rattle.reconstructor_view.specs.declared.InvalidationAnswer.{InvalidationAnswer}
@@ -36,12 +37,12 @@ use Rattle.reconstructor_view.specs.declared.Audited.the-variants as aud
 
 -- ---- when a read is turned away
 
--- 1, 2, 3. 2: "rows under 8 × max_orders words, scratch under max_orders": `short` says that of the scratch, and is false where none is lent. A read is not
--- lent the segment list. `three` says whether number 3 arises
-unfoldable pub readRefusal : ℕ → VenueRules → ℕ → Bool → Bool → Option StateError
-readRefusal top v rows short three =
+-- 1, 2, 3. 2: of the memory, and "scratch under max_orders": `short` says that of the scratch, and is false where none is lent. A read is not lent the segment
+-- list. `three` says whether number 3 arises
+unfoldable pub readRefusal : ℕ → VenueRules → Extent → Bool → Bool → Option StateError
+readRefusal top v lent short three =
     check (overCeiling top v) LimitAboveCeiling
-    (check (ltb rows (8 * v .«max_orders») || short) LentTooShort (check three MalformedBook none))
+    (check (memoryShort v lent || short) LentTooShort (check three MalformedBook none))
 
 -- "then 15 or 18": 18 carries the invalidation in force
 abbrev pub standing : Status → Option ViewError
@@ -49,22 +50,22 @@ standing statuses.Empty = some errors.NotBootstrapped
 standing (statuses.Valid last) = none
 standing (statuses.Invalidated i) = some (errors.Invalidated i)
 
-unfoldable pub viewRefusal : ℕ → VenueRules → ℕ → Bool → Bool → Status → Option ViewError
-viewRefusal top v rows short three s = first (readRefusal top v rows short three) errors.Unusable (standing s)
+unfoldable pub viewRefusal : ℕ → VenueRules → Extent → Bool → Bool → Status → Option ViewError
+viewRefusal top v lent short three s = first (readRefusal top v lent short three) errors.Unusable (standing s)
 
--- of a state with lent rows
-abbrev pub stateRead : ℕ → BookReconstructor → List ℕ → Bool → Option StateError
-stateRead top b ws short = readRefusal top (b .rules) (length ws) short (broken b ws)
+-- of a state with lent memory
+abbrev pub readRefusalOf : ℕ → BookReconstructor → Memory → Bool → Option StateError
+readRefusalOf top b mem short = readRefusal top (b .rules) (extentOf mem) short (broken b mem)
 
-abbrev pub bookView : ℕ → BookReconstructor → List ℕ → Bool → Option ViewError
-bookView top b ws short = viewRefusal top (b .rules) (length ws) short (broken b ws) (b .status)
+abbrev pub viewRefusalOf : ℕ → BookReconstructor → Memory → Bool → Option ViewError
+viewRefusalOf top b mem short = viewRefusal top (b .rules) (extentOf mem) short (broken b mem) (b .status)
 
 -- ---- what a read answers
 
 -- the last sequence applied
-unfoldable pub viewed : Option ViewError → ℕ → Viewed
-viewed none last = views.Valid last
-viewed (some e) last = views.Refused e
+unfoldable pub sequenceOf : Option ViewError → ℕ → SequenceAnswer
+sequenceOf none last = sequences.Valid last
+sequenceOf (some e) last = sequences.Refused e
 
 -- the best buy and the best sell
 unfoldable pub bestOf : Option ViewError → List Entry → BestAnswer
@@ -78,14 +79,14 @@ auditedOf (some e) os = audits.Refused e
 
 -- ---- the reads
 
-abbrev pub lastSequence : ℕ → BookReconstructor → List ℕ → Viewed
-lastSequence top b ws = viewed (bookView top b ws false) (lastOf (b .status))
+abbrev pub lastSequence : ℕ → BookReconstructor → Memory → SequenceAnswer
+lastSequence top b mem = sequenceOf (viewRefusalOf top b mem false) (lastOf (b .status))
 
-abbrev pub bestRead : ℕ → BookReconstructor → List ℕ → BestAnswer
-bestRead top b ws = bestOf (bookView top b ws false) (lineOf (rowsOf ws (b .rows)))
+abbrev pub bestRead : ℕ → BookReconstructor → Memory → BestAnswer
+bestRead top b mem = bestOf (viewRefusalOf top b mem false) (lineIn mem (b .rows))
 
-abbrev pub auditRead : ℕ → BookReconstructor → List ℕ → Audited
-auditRead top b ws = auditedOf (bookView top b ws false) (rowsOf ws (b .rows))
+abbrev pub auditRead : ℕ → BookReconstructor → Memory → Audited
+auditRead top b mem = auditedOf (viewRefusalOf top b mem false) (ordersOf mem (b .rows))
 
 -- ---- the state's own fields and the lent list, whatever the standing
 
@@ -104,4 +105,4 @@ segmentRead b sg k = segmentReadTo b (length sg) k (segmentAt sg k)
 
 -- how many records there are up to a place, in a machine number
 abbrev pub recordsTo : ℕ → ℕ
-recordsTo k = cond (ltb k 18446744073709551615) (k + 1) k
+recordsTo k = cond (ltb k largest) (k + 1) k
