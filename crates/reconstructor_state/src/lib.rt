@@ -2,9 +2,11 @@
 // beside it.
 use message::ProductId;
 use reconstructor_answers::Invalidation;
+use reconstructor_counts::Counter;
 use reconstructor_counts::MessageCounts;
 use reconstructor_segments::SegmentName;
 ghost use mathlib.Core.Path.{_≡_};
+ghost use Rattle.reconstructor_counts.specs.Counts.{counted};
 ghost use Rattle.reconstructor_state.specs.State.{ceiling, limitedRules, newBook, withCounts, withStatus, segmentOf};
 
 // What a size decrease does to an order's place in its queue.
@@ -90,6 +92,14 @@ impl BookReconstructor {
         ensures { λ r. ⌜ r ≡ withCounts self counts ⌝ }
     {
         self.counts = counts;
+        self
+    }
+
+    // One more of what `which` names: the counts are lent, and that one is raised in place.
+    pub fn counting(mut self, which: Counter) -> Self
+        ensures { λ r. ⌜ r ≡ withCounts self (counted (self .counts) which) ⌝ }
+    {
+        reconstructor_counts::count(&mut self.counts, which);
         self
     }
 
