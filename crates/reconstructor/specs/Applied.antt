@@ -7,6 +7,7 @@ use Rattle.message.specs.declared.L3Message.{L3Message}
 use Rattle.book.specs.Memory.{Memory, ordersOf, lineIn, ordersBy, changed}
 use Rattle.reconstructor_answers.specs.declared.Applied.{Applied}
 use Rattle.reconstructor_counts.specs.declared.Counter.{Counter}
+use Rattle.reconstructor_counts.specs.declared.Counter.the-variants.{WrongProduct, SkippedWhileInvalid}
 use Rattle.reconstructor_segments.specs.declared.Segment.{Segment}
 use Rattle.reconstructor_answers.specs.declared.Invalidation.{Invalidation}
 use Rattle.reconstructor_answers.specs.declared.InvalidationKind.{InvalidationKind}
@@ -14,7 +15,7 @@ use Rattle.reconstructor_state.specs.declared.Status.the-variants.{Valid, Inval
 use Rattle.reconstructor_answers.specs.declared.ApplyAnswer.{ApplyAnswer}
 use Rattle.reconstructor_answers.specs.declared.ApplyAnswer.the-variants as answers
 use Rattle.reconstructor_state.specs.declared.BookReconstructor.{BookReconstructor}
-use Rattle.reconstructor_counts.specs.Counts.{counted, countedAt}
+use Rattle.reconstructor_counts.specs.Counts.{counted}
 use Rattle.reconstructor_segments.specs.Segments.{lastSegment, relast, extended, ended}
 use Rattle.reconstructor_state.specs.State.{with, withCounts, withStatus, lastOf, viewWith, lengthsWith}
 use Rattle.reconstructor_checks.specs.Own.{broken}
@@ -63,16 +64,16 @@ putBack sg n w = record { answer = w .answer; book = w .book; memory = w .memory
 
 -- ---- the state
 
--- "another product is 10 (counts wrong_product) .. an invalid book is 17 (counts skipped_while_invalid)": their places among the counts are 10
--- and 9. "Save for the counts named above .. a refusal changes no state and no buffer"
+-- "another product is 10 (counts wrong_product) .. an invalid book is 17 (counts skipped_while_invalid)". "Save for the counts named above .. a refusal changes no
+-- state and no buffer"
 abbrev pub refusedBook : BookReconstructor → ApplyAnswer → BookReconstructor
 refusedBook b (answers.Applied a) = b
 refusedBook b (answers.Unusable e) = b
 refusedBook b answers.AmountOutOfRange = b
-refusedBook b answers.WrongProduct = withCounts b (countedAt 10 (b .counts))
+refusedBook b answers.WrongProduct = withCounts b (counted (b .counts) WrongProduct)
 refusedBook b answers.NotBootstrapped = b
 refusedBook b (answers.Invalidated i) = b
-refusedBook b (answers.AwaitingSnapshot i) = withCounts b (countedAt 9 (b .counts))
+refusedBook b (answers.AwaitingSnapshot i) = withCounts b (counted (b .counts) SkippedWhileInvalid)
 
 unfoldable pub refusedReply : BookReconstructor → ApplyAnswer → Reply
 refusedReply b a = record { answer = a; book = refusedBook b a }
@@ -86,11 +87,7 @@ unfoldable pub invalidatedReply : BookReconstructor → ℕ → ℕ → Invalida
 invalidatedReply b last seq k =
     record { answer = answers.Invalidated (invalidation last seq k); book = withStatus b (Invalidated (invalidation last seq k)) }
 
--- "Acceptance sets last sequence"
-unfoldable pub advancedReply : BookReconstructor → ℕ → ℕ → Applied → Reply
-advancedReply b seq n a = record { answer = answers.Applied a; book = with b (Valid seq) n (b .counts) }
-
--- ".. and adds one to one counter"
+-- "Acceptance sets last sequence .. and adds one to one counter"
 unfoldable pub acceptedReply : BookReconstructor → ℕ → ℕ → Counter → Applied → Reply
 acceptedReply b seq n k a = record { answer = answers.Applied a; book = with b (Valid seq) n (counted (b .counts) k) }
 

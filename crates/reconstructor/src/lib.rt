@@ -25,7 +25,7 @@ ghost use Rattle.reconstructor_checks.specs.Own.{Trusted};
 ghost use Rattle.reconstructor_plan.specs.Rules.{eventDeed};
 ghost use Rattle.reconstructor_plan.specs.Plans.{Ready, PlanFits, planOutcome};
 ghost use Rattle.reconstructor.specs.Refusals.{admitRefusal, turnRefusal};
-ghost use Rattle.reconstructor.specs.Applied.{refusedReply, invalidatedReply, advancedReply, acceptedReply, core, worked, atTurn, nextSegment, appliedTo, leaves, applied};
+ghost use Rattle.reconstructor.specs.Applied.{refusedReply, invalidatedReply, acceptedReply, core, worked, atTurn, nextSegment, appliedTo, leaves, applied};
 ghost use Rattle.reconstructor.specs.Steps.{AdmitsFor, TurnsFor, committed, trustedTo, replyOf};
 
 // What a call leaves of the state, with its answer.
@@ -83,19 +83,18 @@ pub enum Turn {
 fn refused(book: BookReconstructor, answer: ApplyAnswer) -> Reply
     ensures { λ r. ⌜ r ≡ refusedReply book answer ⌝ }
 {
-    let counts = book.counts;
     match answer {
         ApplyAnswer::Applied(_) => Reply { book, answer },
         ApplyAnswer::Unusable(_) => Reply { book, answer },
         ApplyAnswer::AmountOutOfRange => Reply { book, answer },
         ApplyAnswer::WrongProduct => Reply {
-            book: book.with_counts(counts.wrong_product()),
+            book: book.counting(Counter::WrongProduct),
             answer,
         },
         ApplyAnswer::NotBootstrapped => Reply { book, answer },
         ApplyAnswer::Invalidated(_) => Reply { book, answer },
         ApplyAnswer::AwaitingSnapshot(_) => Reply {
-            book: book.with_counts(counts.skipped_while_invalid()),
+            book: book.counting(Counter::SkippedWhileInvalid),
             answer,
         },
     }
@@ -116,21 +115,9 @@ fn invalidated(book: BookReconstructor, last: u64, seq: u64, kind: InvalidationK
     }
 }
 
-// What an accepted message leaves, once it is counted: its sequence, and so many rows in use.
-fn advanced(book: BookReconstructor, seq: u64, rows: usize, applied: Applied) -> Reply
-    ensures { λ r. ⌜ r ≡ advancedReply book seq rows applied ⌝ }
-{
-    let mut next = book.with_status(Status::Valid { last_seq: seq });
-    next.rows = rows;
-    Reply {
-        book: next,
-        answer: ApplyAnswer::Applied(applied),
-    }
-}
-
-// The message is accepted: one of the state's counts, lent, is raised in place.
+// The message is accepted: its sequence, so many rows in use, and one of the state's counts raised in place.
 fn accepted(
-    mut book: BookReconstructor,
+    book: BookReconstructor,
     seq: u64,
     rows: usize,
     counter: Counter,
@@ -138,8 +125,13 @@ fn accepted(
 ) -> Reply
     ensures { λ r. ⌜ r ≡ acceptedReply book seq rows counter applied ⌝ }
 {
-    reconstructor_counts::count(&mut book.counts, counter);
-    advanced(book, seq, rows, applied)
+    let counted = book.counting(counter);
+    let mut next = counted.with_status(Status::Valid { last_seq: seq });
+    next.rows = rows;
+    Reply {
+        book: next,
+        answer: ApplyAnswer::Applied(applied),
+    }
 }
 
 // What comes before the sequence in a state that passed 1, 2 and 3: 5, 10, 15, 17.

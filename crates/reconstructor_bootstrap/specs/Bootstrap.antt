@@ -11,7 +11,8 @@ use Rattle.book.specs.Memory.{Memory, snapshot, changed}
 use Rattle.reconstructor_state.specs.declared.Status.{Status}
 use Rattle.reconstructor_state.specs.declared.Status.the-variants.{Empty, Valid, Invalidated}
 use Rattle.reconstructor_state.specs.declared.BookReconstructor.{BookReconstructor}
-use Rattle.reconstructor_counts.specs.Counts.{countedAt}
+use Rattle.reconstructor_counts.specs.declared.Counter.the-variants.{RejectedSnapshots}
+use Rattle.reconstructor_counts.specs.Counts.{counted}
 use Rattle.reconstructor_segments.specs.declared.Segment.{Segment}
 use Rattle.reconstructor_segments.specs.Segments.{noSegment, lastSegment, relast, started, superseded}
 use Rattle.reconstructor_state.specs.State.{withCounts, viewWith, lengthsWith}
@@ -68,7 +69,7 @@ refusedBook (Unusable e) b = b
 refusedBook NotAPiece b = b
 refusedBook AmountOutOfRange b = b
 refusedBook ListFull b = b
-refusedBook (Rejected e) b = withCounts b (countedAt 11 (b .counts))
+refusedBook (Rejected e) b = withCounts b (counted (b .counts) RejectedSnapshots)
 
 -- of a call that is lent so many records
 abbrev pub refusedWork : SnapshotAnswer → BookReconstructor → ℕ → Segment → Work

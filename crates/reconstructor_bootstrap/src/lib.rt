@@ -10,6 +10,7 @@ use piece::PieceError;
 use piece::ReadSnapshot;
 use reconstructor_answers::StateError;
 use reconstructor_checks::Checked;
+use reconstructor_counts::Counter;
 use reconstructor_segments::Segment;
 use reconstructor_state::BookReconstructor;
 use reconstructor_state::Status;
@@ -364,10 +365,7 @@ fn refused_book(book: BookReconstructor, answer: SnapshotAnswer) -> BookReconstr
         SnapshotAnswer::NotAPiece => book,
         SnapshotAnswer::AmountOutOfRange => book,
         SnapshotAnswer::ListFull => book,
-        SnapshotAnswer::Rejected(_) => {
-            let counts = book.counts;
-            book.with_counts(counts.rejected_snapshot())
-        }
+        SnapshotAnswer::Rejected(_) => book.counting(Counter::RejectedSnapshots),
     }
 }
 

@@ -1,6 +1,6 @@
 // Messages counted by what they did.
 ghost use mathlib.Core.Path.{_≡_};
-ghost use Rattle.reconstructor_counts.specs.Counts.{saturated, noCounts, counted, countedAt};
+ghost use Rattle.reconstructor_counts.specs.Counts.{saturated, noCounts, counted};
 
 // Messages counted by what they did.
 pub struct MessageCounts {
@@ -91,33 +91,5 @@ impl MessageCounts {
             wrong_product: 0,
             rejected_snapshots: 0,
         }
-    }
-
-    pub fn handshake_dropped(mut self) -> Self
-        ensures { λ r. ⌜ r ≡ countedAt 8 self ⌝ }
-    {
-        self.handshake_dropped = saturating_next(self.handshake_dropped);
-        self
-    }
-
-    pub fn skipped_while_invalid(mut self) -> Self
-        ensures { λ r. ⌜ r ≡ countedAt 9 self ⌝ }
-    {
-        self.skipped_while_invalid = saturating_next(self.skipped_while_invalid);
-        self
-    }
-
-    pub fn wrong_product(mut self) -> Self
-        ensures { λ r. ⌜ r ≡ countedAt 10 self ⌝ }
-    {
-        self.wrong_product = saturating_next(self.wrong_product);
-        self
-    }
-
-    pub fn rejected_snapshot(mut self) -> Self
-        ensures { λ r. ⌜ r ≡ countedAt 11 self ⌝ }
-    {
-        self.rejected_snapshots = saturating_next(self.rejected_snapshots);
-        self
     }
 }

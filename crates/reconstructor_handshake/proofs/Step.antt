@@ -11,7 +11,8 @@ use Rattle.message.specs.Values.{eventInRange}
 use Rattle.book.specs.Memory.{Memory}
 use Rattle.reconstructor_answers.specs.declared.StateError.{StateError}
 use Rattle.reconstructor_answers.specs.declared.ApplyAnswer.the-variants as answers
-use Rattle.reconstructor_counts.specs.Counts.{countedAt}
+use Rattle.reconstructor_counts.specs.declared.Counter.the-variants.{HandshakeDropped}
+use Rattle.reconstructor_counts.specs.Counts.{counted}
 use Rattle.reconstructor_segments.specs.declared.Segment.{Segment}
 use Rattle.reconstructor_segments.specs.Segments.{lastSegment}
 use Rattle.reconstructor_segments.proofs.Last.{relast-same}
@@ -76,7 +77,7 @@ abbrev pub unchangedParts : StepAnswer → Handshake → BookReconstructor → M
 unchangedParts a h b mem sg = record { answer = a; handshake = h; book = b; memory = mem; segments = sg }
 
 abbrev pub droppedParts : Handshake → BookReconstructor → Memory → List Segment → StepParts
-droppedParts h b mem sg = unchangedParts Dropped h (withCounts b (countedAt 8 (b .counts))) mem sg
+droppedParts h b mem sg = unchangedParts Dropped h (withCounts b (counted (b .counts) HandshakeDropped)) mem sg
 
 abbrev pub decidedParts : Handshake → Parts → StepParts
 decidedParts h p =

@@ -17,7 +17,8 @@ use Rattle.reconstructor_answers.specs.declared.ApplyAnswer.{ApplyAnswer}
 use Rattle.reconstructor_answers.specs.declared.ApplyAnswer.the-variants as answers
 use Rattle.message.specs.Told.{Told, told, droppedNumber}
 use Rattle.reconstructor_answers.specs.Numbers.{answerTold}
-use Rattle.reconstructor_counts.specs.Counts.{saturated, countedAt}
+use Rattle.reconstructor_counts.specs.declared.Counter.the-variants.{HandshakeDropped}
+use Rattle.reconstructor_counts.specs.Counts.{saturated, counted}
 use Rattle.reconstructor_segments.specs.declared.Segment.{Segment}
 use Rattle.reconstructor_segments.specs.declared.SegmentName.{SegmentName}
 use Rattle.reconstructor_segments.specs.Segments.{sameSegment, lastSegment, relast}
@@ -114,9 +115,9 @@ abbrev pub decided : Handshake → Worked → StepWorked
 decided h w =
     record { answer = Stepped (w .answer); handshake = after h (w .answer); book = w .book; memory = w .memory; segment = w .segment }
 
--- "dropped and counted": handshake_dropped is count 8
+-- "dropped and counted"
 abbrev pub dropped : Handshake → BookReconstructor → Memory → Segment → StepWorked
-dropped h b mem g = unchanged Dropped h (withCounts b (countedAt 8 (b .counts))) mem g
+dropped h b mem g = unchanged Dropped h (withCounts b (counted (b .counts) HandshakeDropped)) mem g
 
 -- a refusal, or else what the step does
 unfoldable pub unlessRefused : Option StepAnswer → StepWorked → Handshake → BookReconstructor → Memory → Segment → StepWorked

@@ -3,6 +3,7 @@ use message::L3Message;
 use message::ProductId;
 use reconstructor_answers::ApplyAnswer;
 use reconstructor_checks::Checked;
+use reconstructor_counts::Counter;
 use reconstructor_segments::Segment;
 use reconstructor_segments::SegmentName;
 use reconstructor_state::BookReconstructor;
@@ -169,8 +170,7 @@ impl Handshake {
         }
         let product = book.product_id;
         if drops(product, last.start_seq, message) {
-            let counts = book.counts;
-            let counted = book.with_counts(counts.handshake_dropped());
+            let counted = book.counting(Counter::HandshakeDropped);
             return self.unchanged(counted, last, StepAnswer::Dropped);
         }
         let work = reconstructor::apply_trusted(book, rows, last, message);

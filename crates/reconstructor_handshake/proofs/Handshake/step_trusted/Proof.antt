@@ -23,7 +23,7 @@ returns-3 : tie.Need-returns-3
 unfolding stepTo unlessRefused check
 returns-3 c =
     let r = ap not (sym (c .before .before .before .before .before .before .before .before .event-in-range .ensures)) ∙ c .before .before .before .before .before .before .before .if2 .left in
-    rw (told-false (c .before .before .before .before .before .before .before .before .before .before .is-other .ensures) (c .before .before .before .before .before .before .before .before .before .if1 .left), r, sym (c .before .before .before .before .before .drops .ensures) ∙ c .before .before .before .before .if3 .taken, c .unchanged3 .ensures, c .before .with-counts .ensures, c .before .before .handshake-dropped .ensures)
+    rw (told-false (c .before .before .before .before .before .before .before .before .before .before .is-other .ensures) (c .before .before .before .before .before .before .before .before .before .if1 .left), r, sym (c .before .before .before .before .before .drops .ensures) ∙ c .before .before .before .before .if3 .taken, c .unchanged3 .ensures, c .before .counting .ensures)
 
 returns-4 : tie.Need-returns-4
 unfolding stepTo unlessRefused check
