@@ -22,8 +22,10 @@ returns-2 c =
 returns-3 : tie.Need-returns-3
 unfolding stepTo unlessRefused check
 returns-3 c =
-    let r = ap not (sym (c .before .before .before .before .before .before .before .before .event-in-range .ensures)) ∙ c .before .before .before .before .before .before .before .if2 .left in
-    rw (told-false (c .before .before .before .before .before .before .before .before .before .before .is-other .ensures) (c .before .before .before .before .before .before .before .before .before .if1 .left), r, sym (c .before .before .before .before .before .drops .ensures) ∙ c .before .before .before .before .if3 .taken, c .unchanged3 .ensures, c .before .counting .ensures)
+    let k-if2 = c .before .before .before .before .before in
+    let k-if1 = k-if2 .before .before in
+    let r = ap not (sym (k-if2 .before .event-in-range .ensures)) ∙ k-if2 .if2 .left in
+    rw (told-false (k-if1 .before .is-other .ensures) (k-if1 .if1 .left), r, sym (c .before .before .before .drops .ensures) ∙ c .before .before .if3 .taken, c .unchanged3 .ensures, c .before .counting .ensures)
 
 returns-4 : tie.Need-returns-4
 unfolding stepTo unlessRefused check
@@ -43,7 +45,6 @@ step-trusted-spec =
     (λ c κs. search needs)
     (λ c κs. search needs)
     returns-2
-    (λ c κs. search needs)
     (λ c κs. search needs)
     (λ c κs. search needs)
     (λ c κs. search needs)
