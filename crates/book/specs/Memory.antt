@@ -1,7 +1,7 @@
 -- The memory that a book is laid out in, what an accepted call does to the orders, and what that leaves in the memory.
-use Prim.Native.Nat.{ℕ}
+use Prim.Native.Nat.{ℕ, _≤_}
 use mathlib.Core.List.{List, [], _∷_, _++_, map}
-use lib.ListN.{length}
+use lib.ListN.{length, take, drop}
 use Rattle.message.specs.declared.OrderId.{OrderId}
 use Rattle.book.specs.declared.Decrease.{Decrease}
 use Rattle.book.specs.declared.Resting.{Resting}
@@ -23,6 +23,17 @@ pub record Extent : Type 0 where
 
 abbrev pub extentOf : Memory → Extent
 extentOf m = record { rows = length (m .rows) }
+
+-- a call is lent the front of it; afterwards what the call left stands before what is behind
+abbrev pub front : Extent → Memory → Memory
+front n mem = record { rows = take (n .rows) (mem .rows) }
+
+abbrev pub behind : Extent → Memory → Memory → Memory
+behind n mem left = record { rows = left .rows ++ drop (n .rows) (mem .rows) }
+
+-- no more than there is
+abbrev pub Within : Extent → Extent → Type 0
+Within n most = n .rows ≤ most .rows
 
 -- the orders of the first n rows, in order of arrival, and the line that they stand for
 abbrev pub ordersOf : Memory → ℕ → List Resting
