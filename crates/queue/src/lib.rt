@@ -1,4 +1,5 @@
 // Volume ahead of an own order, under declared hypotheses: queue estimation, kept apart from the visible book. It validates no fill model.
+// Each call is worked `_under` a ceiling.
 use book::Found;
 use book::Resting;
 use book_queue::EntryForm;
@@ -7,25 +8,33 @@ use message::OrderId;
 use reconstructor_segments::SegmentName;
 use reconstructor_state::BookReconstructor;
 use reconstructor_state::SizeDecrease;
+use reconstructor_state::VenueRules;
+use reconstructor_view::SequenceAnswer;
 use reconstructor_view::ViewError;
-use reconstructor_view::Viewed;
 ghost use mathlib.Core.Path.{_≡_};
-ghost use mathlib.Core.Bool.{false, not, _||_, cond};
+ghost use mathlib.Core.Bool.{false, not, cond};
 ghost use Prim.Native.Nat.{_*_, _≤_};
 ghost use lib.Dec.{ltb};
 ghost use lib.ListN.{length};
 ghost use Rattle.message.specs.Same.{sameId};
 ghost use Rattle.message.specs.Values.{amountLimit};
 ghost use Rattle.book.specs.Line.{sameLevel};
-ghost use Rattle.book.specs.Rows.{Lent, ceiling, rowsOf, sideOf, idOf};
+ghost use Rattle.book.specs.Rows.{Lent, mostRows, sideOf, idOf};
+ghost use Rattle.book.specs.Memory.{memory, ordersOf};
 ghost use Rattle.book.specs.Broken.{someRowBroken};
 ghost use Rattle.book_queue.specs.Queue.{rowsAt};
 ghost use Rattle.reconstructor_segments.specs.Segments.{sameSegment};
-ghost use Rattle.reconstructor_state.specs.State.{segmentOf};
-ghost use Rattle.queue.specs.Ahead.{rowWith, enteredAt, entriesFrom, stillAhead, before, decreasedAfter, tallyOf};
-ghost use Rattle.queue.specs.Steps.{noTally, tallyWith, tallyJoined, Small, RestsFor};
-ghost use Rattle.queue.specs.Estimates.{losesPlace, placeUnknown, estimateLeaves, queueEstimate, ownEstimate, queueEstimateOwn, tallied, ownAhead, volumeAhead};
+ghost use Rattle.reconstructor_state.specs.State.{ceiling, segmentOf};
+ghost use Rattle.queue.specs.Ahead.{rowWith, enteredAt, aheadEntryWords, entriesFrom, stillAhead, before, decreasedAfter, tallyOf};
+ghost use Rattle.queue.specs.Tallies.{noTally, tallyWith, tallyJoined, Small, RestsFor};
+ghost use Rattle.queue.specs.Estimates.{losesPlace, placeUnknown, estimateLeaves, queueEstimate, ownEstimate, queueEstimateOwn, listBound, listShort, tallied, listAhead, ownAhead, anchorAhead, volumeAhead};
 ghost use Rattle.queue.specs.Numbers.{queueErrorNumber, estimateTold, aheadTold};
+
+// Words of an ahead-list's entry: an order's id, high and low, and where it entered.
+pub const AHEAD_ENTRY_WORDS: usize = 3;
+
+// The most orders of an ahead-list, whatever a call's ceiling is: above it is number 8.
+pub const LIST_BOUND: usize = 4096;
 
 // A hypothesis a queue result rests on.
 pub enum Assumption {
@@ -161,7 +170,7 @@ fn place_unknown(rule: SizeDecrease, o: Resting) -> bool
 // The row of an id.
 fn resting(rows: &[u64], n: usize, id: OrderId) -> Rests
     requires { ⌜ Lent (now rows) n ⌝ }
-    ensures { λ r. ⌜ RestsFor (rowWith id (rowsOf (now (rows .entry)) n)) r ⌝ }
+    ensures { λ r. ⌜ RestsFor (rowWith id (ordersOf (memory (now (rows .entry))) n)) r ⌝ }
 {
     match book::find(rows, n, id) {
         Found::At(i) => Rests::Row(book::get_row(rows, i)),
@@ -172,7 +181,7 @@ fn resting(rows: &[u64], n: usize, id: OrderId) -> Rests
 // The row of an id, if it entered there: an id that is used again names another order.
 fn resting_since(rows: &[u64], n: usize, id: OrderId, entered_at: u64) -> Rests
     requires { ⌜ Lent (now rows) n ⌝ }
-    ensures { λ r. ⌜ RestsFor (enteredAt «entered_at» (rowWith id (rowsOf (now (rows .entry)) n))) r ⌝ }
+    ensures { λ r. ⌜ RestsFor (enteredAt «entered_at» (rowWith id (ordersOf (memory (now (rows .entry))) n))) r ⌝ }
 {
     match resting(rows, n, id) {
         Rests::Row(o) => {
@@ -237,9 +246,9 @@ fn tally_with(since: u64, o: Resting, t: Tally) -> Tally
 
 // A tally with the order of an ahead-list's entry, while it rests.
 fn tally_entry(rows: &[u64], n: usize, id: OrderId, entered_at: u64, since: u64, t: Tally) -> Tally
-    requires { ⌜ Lent (now rows) n × (someRowBroken (rowsOf (now rows) n) ≡ false) ⌝ }
+    requires { ⌜ Lent (now rows) n × (someRowBroken (ordersOf (memory (now rows)) n) ≡ false) ⌝ }
     requires { ⌜ Small t ⌝ }
-    ensures { λ r. ⌜ r ≡ tallyJoined since (enteredAt «entered_at» (rowWith id (rowsOf (now (rows .entry)) n))) t ⌝ }
+    ensures { λ r. ⌜ r ≡ tallyJoined since (enteredAt «entered_at» (rowWith id (ordersOf (memory (now (rows .entry))) n))) t ⌝ }
 {
     match resting_since(rows, n, id, entered_at) {
         Rests::Row(o) => tally_with(since, o, t),
@@ -249,19 +258,20 @@ fn tally_entry(rows: &[u64], n: usize, id: OrderId, entered_at: u64, since: u64,
 
 // The tally of `orders` entries of an ahead-list.
 fn tally_list(rows: &[u64], n: usize, ahead: &[u64], orders: usize, since: u64) -> Tally
-    requires { ⌜ Lent (now rows) n × (someRowBroken (rowsOf (now rows) n) ≡ false) ⌝ }
-    requires { ⌜ (3 * orders ≤ length (now ahead)) × (orders ≤ ceiling) ⌝ }
-    ensures { λ r. ⌜ r ≡ tallyOf since (stillAhead (rowsOf (now (rows .entry)) n) (entriesFrom (now (ahead .entry)) 0 orders)) ⌝ }
+    requires { ⌜ Lent (now rows) n × (someRowBroken (ordersOf (memory (now rows)) n) ≡ false) ⌝ }
+    requires { ⌜ (aheadEntryWords * orders ≤ length (now ahead)) × (orders ≤ listBound) ⌝ }
+    ensures { λ r. ⌜ r ≡ tallyOf since (stillAhead (ordersOf (memory (now (rows .entry))) n) (entriesFrom (now (ahead .entry)) 0 orders)) ⌝ }
 {
     let mut t = no_tally();
     let mut i = orders;
     while 0 < i {
         i -= 1;
+        let at = AHEAD_ENTRY_WORDS * i;
         let id = OrderId {
-            high: ahead[3 * i],
-            low: ahead[3 * i + 1],
+            high: ahead[at],
+            low: ahead[at + 1],
         };
-        t = tally_entry(rows, n, id, ahead[3 * i + 2], since, t);
+        t = tally_entry(rows, n, id, ahead[at + 2], since, t);
     }
     t
 }
@@ -282,8 +292,8 @@ fn tally_row(o: Resting, side: L3Side, price: u64, own: OrderId, since: u64, t: 
 
 // The tally of the orders at a side and price before our own.
 fn tally_before(rows: &[u64], n: usize, side: L3Side, price: u64, own: OrderId, since: u64) -> Tally
-    requires { ⌜ Lent (now rows) n × (someRowBroken (rowsOf (now rows) n) ≡ false) ⌝ }
-    ensures { λ r. ⌜ r ≡ tallyOf since (before own (rowsAt side price (rowsOf (now (rows .entry)) n))) ⌝ }
+    requires { ⌜ Lent (now rows) n × (someRowBroken (ordersOf (memory (now rows)) n) ≡ false) ⌝ }
+    ensures { λ r. ⌜ r ≡ tallyOf since (before own (rowsAt side price (ordersOf (memory (now (rows .entry))) n))) ⌝ }
 {
     let mut t = no_tally();
     let mut i = n;
@@ -326,16 +336,30 @@ pub fn queue_estimate(
     price: i64,
     ahead: &mut [u64],
 ) -> EstimateAnswer
-    ensures { λ r. ⌜ estimateLeaves r (now (ahead .exit)) ≡ queueEstimate ceiling book (now (rows .entry)) side price (now (ahead .entry)) ⌝ }
-    ensures told { λ r. ⌜ estimateTold r ≡ estimateTold (queueEstimate ceiling book (now (rows .entry)) side price (now (ahead .entry)) .answer) ⌝ }
+    ensures { λ r. ⌜ estimateLeaves r (now (ahead .exit)) ≡ queueEstimate ceiling book (memory (now (rows .entry))) side price (now (ahead .entry)) ⌝ }
+    ensures told { λ r. ⌜ estimateTold r ≡ estimateTold (queueEstimate ceiling book (memory (now (rows .entry))) side price (now (ahead .entry)) .answer) ⌝ }
+{
+    queue_estimate_under(VenueRules::CEILING, book, rows, side, price, ahead)
+}
+
+pub fn queue_estimate_under(
+    top: usize,
+    book: BookReconstructor,
+    rows: &[u64],
+    side: L3Side,
+    price: i64,
+    ahead: &mut [u64],
+) -> EstimateAnswer
+    requires { ⌜ top ≤ mostRows ⌝ }
+    ensures { λ r. ⌜ estimateLeaves r (now (ahead .exit)) ≡ queueEstimate top book (memory (now (rows .entry))) side price (now (ahead .entry)) ⌝ }
 {
     let n = book.rows;
     let at = message::amount::size_of(price);
-    match reconstructor_view::valid_book(book, rows, false) {
-        Viewed::Refused(why) => EstimateAnswer::Refused(QueueError::View(why)),
-        Viewed::Valid { last_seq } => {
-            let count = book_queue::order_count(rows, n, side, at);
-            if ahead.len() < 3 * count {
+    match reconstructor_view::valid_book(top, book, rows, false) {
+        SequenceAnswer::Refused(why) => EstimateAnswer::Refused(QueueError::View(why)),
+        SequenceAnswer::Valid { last_seq } => {
+            let orders = book_queue::order_count(rows, n, side, at);
+            if ahead.len() < AHEAD_ENTRY_WORDS * orders {
                 return EstimateAnswer::Refused(QueueError::OutputTooSmall);
             }
             book_queue::write_orders(rows, n, side, at, EntryForm::Ahead, ahead);
@@ -344,7 +368,7 @@ pub fn queue_estimate(
                 price,
                 segment: book.segment_name(),
                 anchor: Anchor::Hypothetical {
-                    orders: count,
+                    orders,
                     created_at: last_seq,
                 },
             })
@@ -374,14 +398,26 @@ pub fn queue_estimate_own(
     rows: &[u64],
     order_id: OrderId,
 ) -> EstimateAnswer
-    ensures { λ r. ⌜ r ≡ queueEstimateOwn ceiling book (now (rows .entry)) «order_id» ⌝ }
-    ensures told { λ r. ⌜ estimateTold r ≡ estimateTold (queueEstimateOwn ceiling book (now (rows .entry)) «order_id») ⌝ }
+    ensures { λ r. ⌜ r ≡ queueEstimateOwn ceiling book (memory (now (rows .entry))) «order_id» ⌝ }
+    ensures told { λ r. ⌜ estimateTold r ≡ estimateTold (queueEstimateOwn ceiling book (memory (now (rows .entry))) «order_id») ⌝ }
+{
+    queue_estimate_own_under(VenueRules::CEILING, book, rows, order_id)
+}
+
+pub fn queue_estimate_own_under(
+    top: usize,
+    book: BookReconstructor,
+    rows: &[u64],
+    order_id: OrderId,
+) -> EstimateAnswer
+    requires { ⌜ top ≤ mostRows ⌝ }
+    ensures { λ r. ⌜ r ≡ queueEstimateOwn top book (memory (now (rows .entry))) «order_id» ⌝ }
 {
     let rules = book.rules;
     let rule = rules.size_decrease;
-    match reconstructor_view::valid_book(book, rows, false) {
-        Viewed::Refused(why) => EstimateAnswer::Refused(QueueError::View(why)),
-        Viewed::Valid { .. } => {
+    match reconstructor_view::valid_book(top, book, rows, false) {
+        SequenceAnswer::Refused(why) => EstimateAnswer::Refused(QueueError::View(why)),
+        SequenceAnswer::Valid { .. } => {
             let Rests::Row(o) = resting(rows, book.rows, order_id) else {
                 return EstimateAnswer::Refused(QueueError::NotResting);
             };
@@ -393,14 +429,19 @@ pub fn queue_estimate_own(
     }
 }
 
-// Number 8.
-fn list_short(orders: usize, words: usize) -> bool
-    ensures { λ r. ⌜ r ≡ (ltb ceiling orders || ltb words (3 * orders)) ⌝ }
+// Number 8, of an ahead-list of so many words.
+fn list_short(anchor: Anchor, words: usize) -> bool
+    ensures { λ r. ⌜ r ≡ listShort anchor words ⌝ }
 {
-    if orders > 4096 {
-        return true;
+    match anchor {
+        Anchor::Hypothetical { orders, .. } => {
+            if orders > LIST_BOUND {
+                return true;
+            }
+            words < AHEAD_ENTRY_WORDS * orders
+        }
+        Anchor::Own { .. } => false,
     }
-    words < 3 * orders
 }
 
 // The volume ahead of an estimate with a list, once 8 and 50 are out.
@@ -412,9 +453,9 @@ fn ahead_of_list(
     created_at: u64,
     last_seq: u64,
 ) -> AheadAnswer
-    requires { ⌜ Lent (now rows) (book .rows) × (someRowBroken (rowsOf (now rows) (book .rows)) ≡ false) ⌝ }
-    requires { ⌜ (3 * orders ≤ length (now ahead)) × (orders ≤ ceiling) ⌝ }
-    ensures { λ r. ⌜ r ≡ tallied (book .rules .«size_decrease») «last_seq» Assumption.BackOfVisibleQueueAtCreation false (tallyOf «created_at» (stillAhead (rowsOf (now (rows .entry)) (book .rows)) (entriesFrom (now (ahead .entry)) 0 orders))) ⌝ }
+    requires { ⌜ Lent (now rows) (book .rows) × (someRowBroken (ordersOf (memory (now rows)) (book .rows)) ≡ false) ⌝ }
+    requires { ⌜ (aheadEntryWords * orders ≤ length (now ahead)) × (orders ≤ listBound) ⌝ }
+    ensures { λ r. ⌜ r ≡ listAhead (book .rules .«size_decrease») «last_seq» orders «created_at» (now (ahead .entry)) (ordersOf (memory (now (rows .entry))) (book .rows)) ⌝ }
 {
     let rules = book.rules;
     let rule = rules.size_decrease;
@@ -438,8 +479,8 @@ fn ahead_of_own(
     entered_at: u64,
     last_seq: u64,
 ) -> AheadAnswer
-    requires { ⌜ Lent (now rows) (book .rows) × (someRowBroken (rowsOf (now rows) (book .rows)) ≡ false) ⌝ }
-    ensures { λ r. ⌜ r ≡ ownAhead (book .rules .«size_decrease») «last_seq» side price own «entered_at» (rowsOf (now (rows .entry)) (book .rows)) ⌝ }
+    requires { ⌜ Lent (now rows) (book .rows) × (someRowBroken (ordersOf (memory (now rows)) (book .rows)) ≡ false) ⌝ }
+    ensures { λ r. ⌜ r ≡ ownAhead (book .rules .«size_decrease») «last_seq» side price own «entered_at» (ordersOf (memory (now (rows .entry))) (book .rows)) ⌝ }
 {
     let rules = book.rules;
     let rule = rules.size_decrease;
@@ -468,6 +509,32 @@ fn is_stale(book: BookReconstructor, estimate: QueueEstimate) -> bool
     !reconstructor_segments::same_segment(segment, book.segment_name())
 }
 
+// The volume ahead of an estimate's order, once 8 and 50 are out.
+fn anchor_ahead(
+    book: BookReconstructor,
+    rows: &[u64],
+    estimate: QueueEstimate,
+    ahead: &[u64],
+    last_seq: u64,
+) -> AheadAnswer
+    requires { ⌜ Lent (now rows) (book .rows) × (someRowBroken (ordersOf (memory (now rows)) (book .rows)) ≡ false) ⌝ }
+    requires { ⌜ listShort (estimate .anchor) (length (now ahead)) ≡ false ⌝ }
+    ensures { λ r. ⌜ r ≡ anchorAhead (book .rules .«size_decrease») «last_seq» estimate (estimate .anchor) (now (ahead .entry)) (ordersOf (memory (now (rows .entry))) (book .rows)) ⌝ }
+{
+    let side = estimate.side;
+    let at = message::amount::size_of(estimate.price);
+    let anchor = estimate.anchor;
+    match anchor {
+        Anchor::Hypothetical { orders, created_at } => {
+            ahead_of_list(book, rows, ahead, orders, created_at, last_seq)
+        }
+        Anchor::Own {
+            order_id,
+            entered_at,
+        } => ahead_of_own(book, rows, side, at, order_id, entered_at, last_seq),
+    }
+}
+
 // The volume now ahead of the estimate's order. Only the orders ahead count, each with its current size: their matches, cancels and decreases reduce it,
 // and orders opened later are behind.
 pub fn volume_ahead(
@@ -476,34 +543,33 @@ pub fn volume_ahead(
     estimate: QueueEstimate,
     ahead: &[u64],
 ) -> AheadAnswer
-    ensures { λ r. ⌜ r ≡ volumeAhead ceiling book (now (rows .entry)) estimate (now (ahead .entry)) ⌝ }
-    ensures told { λ r. ⌜ aheadTold r ≡ aheadTold (volumeAhead ceiling book (now (rows .entry)) estimate (now (ahead .entry))) ⌝ }
+    ensures { λ r. ⌜ r ≡ volumeAhead ceiling book (memory (now (rows .entry))) estimate (now (ahead .entry)) ⌝ }
+    ensures told { λ r. ⌜ aheadTold r ≡ aheadTold (volumeAhead ceiling book (memory (now (rows .entry))) estimate (now (ahead .entry))) ⌝ }
 {
-    let last_seq = match reconstructor_view::valid_book(book, rows, false) {
-        Viewed::Refused(why) => return AheadAnswer::Refused(QueueError::View(why)),
-        Viewed::Valid { last_seq } => last_seq,
-    };
-    let side = estimate.side;
-    let at = message::amount::size_of(estimate.price);
-    let anchor = estimate.anchor;
-    match anchor {
-        Anchor::Hypothetical { orders, created_at } => {
-            if list_short(orders, ahead.len()) {
+    volume_ahead_under(VenueRules::CEILING, book, rows, estimate, ahead)
+}
+
+pub fn volume_ahead_under(
+    top: usize,
+    book: BookReconstructor,
+    rows: &[u64],
+    estimate: QueueEstimate,
+    ahead: &[u64],
+) -> AheadAnswer
+    requires { ⌜ top ≤ mostRows ⌝ }
+    ensures { λ r. ⌜ r ≡ volumeAhead top book (memory (now (rows .entry))) estimate (now (ahead .entry)) ⌝ }
+{
+    match reconstructor_view::valid_book(top, book, rows, false) {
+        SequenceAnswer::Refused(why) => AheadAnswer::Refused(QueueError::View(why)),
+        SequenceAnswer::Valid { last_seq } => {
+            let anchor = estimate.anchor;
+            if list_short(anchor, ahead.len()) {
                 return AheadAnswer::Refused(QueueError::AheadListShort);
             }
             if is_stale(book, estimate) {
                 return AheadAnswer::Refused(QueueError::StaleEstimate);
             }
-            ahead_of_list(book, rows, ahead, orders, created_at, last_seq)
-        }
-        Anchor::Own {
-            order_id,
-            entered_at,
-        } => {
-            if is_stale(book, estimate) {
-                return AheadAnswer::Refused(QueueError::StaleEstimate);
-            }
-            ahead_of_own(book, rows, side, at, order_id, entered_at, last_seq)
+            anchor_ahead(book, rows, estimate, ahead, last_seq)
         }
     }
 }

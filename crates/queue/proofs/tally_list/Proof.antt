@@ -53,8 +53,6 @@ tally-list-spec =
     (λ c. search needs)
     (λ c. search needs)
     (λ c. search needs)
-    (λ c. search needs)
-    (λ c. search needs)
     tally-entry-requires
     (λ c. search needs)
     loop-again

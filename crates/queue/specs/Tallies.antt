@@ -6,7 +6,7 @@ use mathlib.Core.Option.{Option, none, some}
 use lib.Dec.{ltb}
 use Rattle.message.specs.Values.{amountLimit}
 use Rattle.book.specs.declared.Resting.{Resting}
-use Rattle.book.specs.Rows.{ceiling}
+use Rattle.book.specs.Rows.{mostRows}
 use Rattle.queue.specs.declared.Rests.{Rests}
 use Rattle.queue.specs.declared.Rests.the-variants.{Row, Gone}
 use Rattle.queue.specs.declared.Tally.{Tally}
@@ -32,10 +32,10 @@ tallyJoined since (some o) t = tallyWith since o t
 
 -- its sums fit a word with one order more
 pub record Small (t : Tally) : Type 0 where
-  pub volume : t .volume ≤ ceiling * amountLimit
-  pub fromSnapshot : t .«from_snapshot» ≤ ceiling * amountLimit
-  pub observed : t .observed ≤ ceiling * amountLimit
-  pub orders : t .orders ≤ ceiling
+  pub volume : t .volume ≤ mostRows * amountLimit
+  pub fromSnapshot : t .«from_snapshot» ≤ mostRows * amountLimit
+  pub observed : t .observed ≤ mostRows * amountLimit
+  pub orders : t .orders ≤ mostRows
 
 -- the row that rests, or none
 abbrev pub RestsFor : Option Resting → Rests → Type 0
