@@ -18,7 +18,7 @@ ghost use Rattle.book.specs.Memory.{memory, ordersOf};
 ghost use Rattle.book.specs.Broken.{someRowBroken};
 ghost use Rattle.reconstructor_state.specs.State.{ceiling};
 ghost use Rattle.reconstructor_reads.specs.LevelReads.{profileWords, l2Words, queueContent, levelsContent, shows, shown, readOf, leaves, levelQueue, priorityProfile, l2, leavesStale, staleL2};
-ghost use Rattle.reconstructor_reads.specs.Numbers.{shownTold, levelTold, staleTold};
+ghost use Rattle.reconstructor_reads.specs.Numbers.{levelTold, staleTold};
 
 // Words of an entry: of `level_queue`, of `priority_profile`, of `l2` and `stale_l2`.
 pub const QUEUE_WORDS: usize = 5;
@@ -45,40 +45,6 @@ pub enum StaleAnswer {
     NotStale,
     Shown(Shown),
     Unusable(StateError),
-}
-
-impl Shown {
-    pub fn number(self) -> u64
-        ensures { λ r. ⌜ r ≡ shownTold self .number ⌝ }
-    {
-        match self {
-            Shown::Entries(_) => 0,
-            Shown::OutputTooSmall => 7,
-        }
-    }
-}
-
-impl LevelAnswer {
-    pub fn number(self) -> u64
-        ensures { λ r. ⌜ r ≡ levelTold self .number ⌝ }
-    {
-        match self {
-            LevelAnswer::Shown(shown) => shown.number(),
-            LevelAnswer::Refused(why) => why.number(),
-        }
-    }
-}
-
-impl StaleAnswer {
-    pub fn number(self) -> u64
-        ensures { λ r. ⌜ r ≡ staleTold self .number ⌝ }
-    {
-        match self {
-            StaleAnswer::NotStale => 256,
-            StaleAnswer::Shown(shown) => shown.number(),
-            StaleAnswer::Unusable(why) => why.number(),
-        }
-    }
 }
 
 // Shows the orders at a side and price.
