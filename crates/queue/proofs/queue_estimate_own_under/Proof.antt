@@ -1,3 +1,4 @@
+-- Where `valid_book` answers a sequence, the rows are lent and sound: the own order is looked up, and its price fits an amount.
 use mathlib.Core.Bool.{false}
 use Rattle.book.specs.Memory.{memory, ordersOf}
 use Rattle.reconstructor_checks.proofs.Own.{sound, rows-ready}

@@ -1,3 +1,4 @@
+-- Where `valid_book` answers a sequence, the rows are lent. The orders counted are the entries, three words each; so the code's 7 is the definition's.
 use mathlib.Core.Path.{_≡_, sym}
 use mathlib.Core.Bool.{false}
 use native.Mathlib.Omega.{arith}

@@ -1,3 +1,4 @@
+-- The tests of the code are those of `aheadRefusal`, in its order; past them the rows are lent and sound, and the list is long enough.
 use mathlib.Core.Path.{_∙_, sym}
 use mathlib.Core.Bool.{false}
 use Rattle.book.specs.Memory.{memory}

@@ -1,3 +1,4 @@
+-- Where `valid_book` answers a sequence, 1, 2 and 3 are passed: the rows are lent and sound, and the scratch is long enough for `show_levels`.
 use mathlib.Core.Path.{ap}
 use borrow.Author.Tests.{ltb-false}
 use Rattle.book.specs.Memory.{memory}
