@@ -7,8 +7,8 @@ use Rattle.reconstructor_view.proofs.Readable.{turned, admitted}
 use Rattle.reconstructor_reads.specs.declared.LevelAnswer.the-variants.{Shown}
 use Rattle.reconstructor_reads.specs.LevelReads.{Shows, levelRead, leaves, scratchShort}
 use borrow.Author.Needs.{needs}
-use Rattle.reconstructor_reads.proofs.levels_under.Statement.{statement}
-use Rattle.reconstructor_reads.proofs.levels_under.Tie as tie
+use Rattle.reconstructor_reads.proofs.level_read.Statement.{statement}
+use Rattle.reconstructor_reads.proofs.level_read.Tie as tie
 
 show-levels-requires : tie.Need-show-levels-requires
 show-levels-requires c κs =
@@ -37,8 +37,8 @@ returns-2 c =
     let v = admitted (a .top) (a .book) (memory (a .rows .now)) (scratchShort (a .book) (a .scratch .now)) _ (k-valid-book .valid-book .ensures) _ (k-enum-told .enum-told .given .1) in
     rw (v .0) (ap (λ (w : Shows). leaves (Shown (w .answer)) (w .scratch) (w .out)) (k-show-levels .show-levels .ensures))
 
-pub levels-under-spec : {M : Type 1} → statement M
-levels-under-spec =
+pub level-read-spec : {M : Type 1} → statement M
+level-read-spec =
     tie.close
     (tie.spec
     (λ c κs. search needs)
