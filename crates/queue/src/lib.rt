@@ -128,28 +128,6 @@ impl QueueError {
     }
 }
 
-impl EstimateAnswer {
-    pub fn number(self) -> u64
-        ensures { λ r. ⌜ r ≡ estimateTold self .number ⌝ }
-    {
-        match self {
-            EstimateAnswer::Estimate(_) => 0,
-            EstimateAnswer::Refused(why) => why.number(),
-        }
-    }
-}
-
-impl AheadAnswer {
-    pub fn number(self) -> u64
-        ensures { λ r. ⌜ r ≡ aheadTold self .number ⌝ }
-    {
-        match self {
-            AheadAnswer::Ahead(_) => 0,
-            AheadAnswer::Refused(why) => why.number(),
-        }
-    }
-}
-
 // Whether a decrease loses an order its place.
 fn loses_place(rule: SizeDecrease) -> bool
     ensures { λ r. ⌜ r ≡ losesPlace rule ⌝ }
