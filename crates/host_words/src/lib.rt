@@ -28,6 +28,9 @@ ghost use Rattle.piece.specs.Encode.{kindByte, sideByte, doneReasonByte, change
 ghost use Rattle.piece.specs.Words.{eventWords};
 ghost use Rattle.host_words.specs.Block.{sizeDecreaseOf, reasonOf, discrepancyOf, kindOf, statusOf, rulesOf, countsOf, bookOf, kindWords, statusWords, statusAfter, restList, restored, optionalOf, receivedOf, openOf, doneOf, matchOf, changeOf, eventOf, messageOf, setsStatus};
 
+// The words of a state.
+pub const STATE_WORDS: usize = 27;
+
 // ---- a value as words
 
 // An amount's 64 bits.

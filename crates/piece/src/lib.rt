@@ -25,6 +25,9 @@ ghost use Rattle.piece.specs.Piece.{eventIf, readReceived, readOpen, don
 ghost use Rattle.piece.specs.Piece.{bidsAt, asksAt, snapshotShaped, orderFrom, noOrder, orderAt, ordersFrom, snapshotOf, readSnapshot};
 ghost use Rattle.piece.specs.Words.{readMessageTold, readSnapshotTold};
 
+// The words of a message.
+pub const MESSAGE_WORDS: usize = 21;
+
 // Why bytes are turned away.
 pub enum PieceError {
     // The bytes are not a piece of that kind.
