@@ -85,7 +85,7 @@ class Context:
         self.resources.insert(0, name)
 
     def split(self, kind):
-        assert self.resources[0][0] == kind, self.resources[0]
+        assert isinstance(self.resources[0], tuple) and self.resources[0][0] == kind, self.resources[0]
         self.step("split !" if kind == "⊛" else "fsplit !")
         self.resources[0:1] = self.resources[0][1:]
 

@@ -19,11 +19,13 @@ def head(shell):
 
 
 def opening(shell):
-    elem = "abbrev elem : Ty\nelem = pointee (R .written)\n\n"
     return f"""abbrev R : RattleType
 R = S.the-row
 
-{elem}abbrev local-at : ℕ → Place
+abbrev elem : Ty
+elem = pointee (R .written)
+
+abbrev local-at : ℕ → Place
 local-at i = place i []
 
 module _ {{M : Type 1}} (𝓤 : URA M) (H : Heap 𝓤) (A : Atoms 𝓤) (W : Given 𝓤 H A) ({shell.data} : Data 𝓤 H A) where

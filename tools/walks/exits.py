@@ -3,7 +3,7 @@
 import antt
 import terms
 from context import Context
-from walk import END, all_tokens, at_exit
+from walk import END, at_exit
 
 
 def item(shell, name):
@@ -65,27 +65,28 @@ def ghost(shell):
     return terms.ghost(shell.slices(), "a", "vals")
 
 
+def held(shell):
+    """The context at exit."""
+    return antt.listed(antt.item_text(item(shell, name)) for name in at_exit(shell))
+
+
 def statement(shell):
-    muts = shell.muts()
-    result = shell.result()
-    finals = [f"({slice_.last} : {slice_.type()})" for slice_ in muts]
+    muts, result = shell.muts(), shell.result()
+    values = [f"(r : {result} .R .Denot)", *(f"({slice_.last} : {slice_.type()})" for slice_ in muts)]
     relation = terms.left(shell, "r", [slice_.last for slice_ in muts])
     lengths = [f"length {slice_.last} ≡ length {slice_.now}" for slice_ in muts]
-    held = antt.listed(antt.item_text(item(shell, name)) for name in at_exit(shell))
-    hypotheses = [relation, f"Is ({result} .R) r ({result} .val r ∷ [])", *lengths]
-    head = f"        exits : {' '.join([f'(r : {result} .R .Denot)', *finals])} → {antt.arrows(hypotheses)}"
-    return f"{head}\n            → ent 𝓤 (⋆ 𝓤 H A ({held})) (Post ({result} .val r))"
+    facts = [f"→ {fact}" for fact in (relation, f"Is ({result} .R) r ({result} .val r ∷ [])", *lengths)]
+    ent = f"→ ent 𝓤 (⋆ 𝓤 H A ({held(shell)})) (Post ({result} .val r))"
+    return "        " + antt.wrapped(["exits :", *values, *facts[:-1], facts[-1] + "\n", ent], 12).lstrip()
 
 
 def proof(shell):
     muts = shell.muts()
-    same = [f"same-{slice_.name}" for slice_ in muts]
-    names = " ".join(["r", *(slice_.last for slice_ in muts), "e", "is", *same])
-    held = antt.listed(antt.item_text(item(shell, name)) for name in at_exit(shell))
+    names = ["exits r", *(slice_.last for slice_ in muts), "e is", *(f"same-{slice_.name}" for slice_ in muts)]
     values, fits = lasts(shell, lambda p: p.last), lasts(shell, lambda p: f"same-{p.name}")
     pieces = [
-        f"qed W ({held}) ∵\n",
+        f"qed W ({held(shell)}) ∵\n",
         f"suffices ! _ (ends-at 𝓤 H A ended stayed (Says left) W {ghost(shell)} ({shell.result()} .val r) r {values} {fits}) $ says ! e $\n",
         *script(shell),
     ]
-    return f"        exits {names} =\n{antt.wrapped(pieces, 12)}"
+    return f"        {' '.join(names)} =\n{antt.wrapped(pieces, 12)}"

@@ -1,7 +1,7 @@
 """The MIR of a shell, over the names of its callees. Each statement is the text before the rest of the code, which it encloses."""
 
 import antt
-from parts import LAST, LENT, Ask, Put, ReadLast, Work
+from parts import LAST, LENT, Ask, Put, ReadLast
 
 
 def local_at(number):

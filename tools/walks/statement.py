@@ -54,7 +54,7 @@ def signatures(shell):
     ]
 
 
-def relation(shell, arguments, muts, result):
+def relation(arguments, muts, result):
     """What a call leaves: of its arguments, its result, and the last value of each `&mut`."""
     return antt.arrows([*(a.type() for a in arguments), f"{result} .R .Denot", *(m.type() for m in muts), "Type 0"])
 
@@ -78,8 +78,8 @@ def contract(name, relation_name, ended, arguments, muts):
 def contracts(shell):
     arguments, work_muts = shell.work_arguments(), shell.work_muts()
     return [
-        f"  abbrev Worked : Type 1\n  Worked = {relation(shell, arguments, work_muts, shell.work().data)}",
-        f"  abbrev Left : Type 1\n  Left = {relation(shell, shell.params, shell.muts(), shell.result())}",
+        f"  abbrev Worked : Type 1\n  Worked = {relation(arguments, work_muts, shell.work().data)}",
+        f"  abbrev Left : Type 1\n  Left = {relation(shell.params, shell.muts(), shell.result())}",
         contract("Works", "Worked", "work-ended", arguments, work_muts),
         contract("Says", "Left", "ended", shell.params, shell.muts()),
     ]
