@@ -12,7 +12,8 @@ ghost use Rattle.host_reads.specs.Answers.{answered};
 ghost use Rattle.host_new.specs.New.{newCall};
 ghost use Rattle.host_calls.specs.Calls.{called, stepCalled, applyCall, bootstrapCall, handshakeCall, stepCall};
 ghost use Rattle.host_replay.specs.Replay.{replayCalled, replayCall};
-ghost use Rattle.host_views.specs.Views.{levelCalled, lastCall, bestCall, auditCall, invalidationCall, segmentCall, queueCall, profileCall, l2Call, staleCall};
+ghost use Rattle.host_views.specs.Views.{lastCall, bestCall, auditCall, invalidationCall, segmentCall};
+ghost use Rattle.host_levels.specs.Levels.{levelCalled, queueCall, profileCall, l2Call, staleCall};
 ghost use Rattle.host_estimates.specs.Estimates.{estimateCalled, estimateCall, ownCall, aheadCall};
 
 // Reads a message piece into 21 words: kind, product (two), sequence, time, then the event's fields.
@@ -207,7 +208,7 @@ pub extern "C" fn pinuglaw_level_queue(
 ) -> u64
     ensures { λ r. ⌜ levelCalled r (now (scratch .exit)) (now (out .exit)) (now (count .exit)) ≡ queueCall (now (state .entry)) (now (rows .entry)) (now (scratch .entry)) side price (now (out .entry)) (now (count .entry)) ⌝ }
 {
-    host_views::level_queue(state, rows, scratch, side, price, out, count)
+    host_levels::level_queue(state, rows, scratch, side, price, out, count)
 }
 
 // The levels of a side, three words each, and their number.
@@ -222,7 +223,7 @@ pub extern "C" fn pinuglaw_priority_profile(
 ) -> u64
     ensures { λ r. ⌜ levelCalled r (now (scratch .exit)) (now (out .exit)) (now (count .exit)) ≡ profileCall (now (state .entry)) (now (rows .entry)) (now (scratch .entry)) side (now (out .entry)) (now (count .entry)) ⌝ }
 {
-    host_views::priority_profile(state, rows, scratch, side, out, count)
+    host_levels::priority_profile(state, rows, scratch, side, out, count)
 }
 
 // The levels of a side, two words each, and their number.
@@ -237,7 +238,7 @@ pub extern "C" fn pinuglaw_l2(
 ) -> u64
     ensures { λ r. ⌜ levelCalled r (now (scratch .exit)) (now (out .exit)) (now (count .exit)) ≡ l2Call (now (state .entry)) (now (rows .entry)) (now (scratch .entry)) side (now (out .entry)) (now (count .entry)) ⌝ }
 {
-    host_views::l2(state, rows, scratch, side, out, count)
+    host_levels::l2(state, rows, scratch, side, out, count)
 }
 
 // The same of a book that is invalid; 256 of one that is not.
@@ -252,7 +253,7 @@ pub extern "C" fn pinuglaw_stale_l2(
 ) -> u64
     ensures { λ r. ⌜ levelCalled r (now (scratch .exit)) (now (out .exit)) (now (count .exit)) ≡ staleCall (now (state .entry)) (now (rows .entry)) (now (scratch .entry)) side (now (out .entry)) (now (count .entry)) ⌝ }
 {
-    host_views::stale_l2(state, rows, scratch, side, out, count)
+    host_levels::stale_l2(state, rows, scratch, side, out, count)
 }
 
 // An estimate for an order created now at a side and price, into eight words, and the orders ahead of it, three words each.
