@@ -8,11 +8,13 @@ ghost use mathlib.Core.Path.{_≡_};
 ghost use Rattle.piece.specs.Piece.{readMessage, readSnapshot, orderAt};
 ghost use Rattle.book.specs.Broken.{wordsBroken};
 ghost use Rattle.host_pieces.specs.Pieces.{messageNumber, messageOut, snapshotNumber, snapshotOut, orderNumber, orderOut};
+ghost use Rattle.host_reads.specs.Answers.{answered};
 ghost use Rattle.host_new.specs.New.{newCall};
-ghost use Rattle.host_calls.specs.Calls.{applyCall, bootstrapCall, handshakeCall, stepCall};
-ghost use Rattle.host_replay.specs.Replay.{replayCall};
-ghost use Rattle.host_views.specs.Views.{lastCall, bestCall, auditCall, invalidationCall, segmentCall, queueCall, profileCall, l2Call, staleCall};
-ghost use Rattle.host_estimates.specs.Estimates.{estimateCall, ownCall, aheadCall};
+ghost use Rattle.host_calls.specs.Calls.{called, stepCalled, applyCall, bootstrapCall, handshakeCall, stepCall};
+ghost use Rattle.host_replay.specs.Replay.{replayCalled, replayCall};
+ghost use Rattle.host_views.specs.Views.{lastCall, bestCall, auditCall, invalidationCall, segmentCall};
+ghost use Rattle.host_levels.specs.Levels.{levelCalled, queueCall, profileCall, l2Call, staleCall};
+ghost use Rattle.host_estimates.specs.Estimates.{estimateCalled, estimateCall, ownCall, aheadCall};
 
 // Reads a message piece into 21 words: kind, product (two), sequence, time, then the event's fields.
 #[no_mangle]
@@ -61,8 +63,7 @@ pub extern "C" fn pinuglaw_new(
     max_levels: u64,
     number: u64,
 ) -> u64
-    ensures number { λ r. ⌜ r ≡ newCall (now (state .entry)) «product_high» «product_low» «size_decrease» «max_orders» «max_levels» number .number ⌝ }
-    ensures state { λ r. ⌜ now (state .exit) ≡ newCall (now (state .entry)) «product_high» «product_low» «size_decrease» «max_orders» «max_levels» number .out ⌝ }
+    ensures { λ r. ⌜ answered r (now (state .exit)) ≡ newCall (now (state .entry)) «product_high» «product_low» «size_decrease» «max_orders» «max_levels» number ⌝ }
 {
     host_new::new_book(
         state,
@@ -85,10 +86,7 @@ pub extern "C" fn pinuglaw_apply(
     segments: &mut [u64],
     message: &[u64],
 ) -> u64
-    ensures number { λ r. ⌜ r ≡ applyCall (now (state .entry)) (now (rows .entry)) (now (segments .entry)) (now (message .entry)) .number ⌝ }
-    ensures state { λ r. ⌜ now (state .exit) ≡ applyCall (now (state .entry)) (now (rows .entry)) (now (segments .entry)) (now (message .entry)) .state ⌝ }
-    ensures rows { λ r. ⌜ now (rows .exit) ≡ applyCall (now (state .entry)) (now (rows .entry)) (now (segments .entry)) (now (message .entry)) .rows ⌝ }
-    ensures segments { λ r. ⌜ now (segments .exit) ≡ applyCall (now (state .entry)) (now (rows .entry)) (now (segments .entry)) (now (message .entry)) .segments ⌝ }
+    ensures { λ r. ⌜ called r (now (state .exit)) (now (rows .exit)) (now (segments .exit)) ≡ applyCall (now (state .entry)) (now (rows .entry)) (now (segments .entry)) (now (message .entry)) ⌝ }
 {
     host_calls::apply(state, rows, segments, message)
 }
@@ -102,10 +100,7 @@ pub extern "C" fn pinuglaw_bootstrap(
     segments: &mut [u64],
     bytes: &[u8],
 ) -> u64
-    ensures number { λ r. ⌜ r ≡ bootstrapCall (now (state .entry)) (now (rows .entry)) (now (segments .entry)) (now (bytes .entry)) .number ⌝ }
-    ensures state { λ r. ⌜ now (state .exit) ≡ bootstrapCall (now (state .entry)) (now (rows .entry)) (now (segments .entry)) (now (bytes .entry)) .state ⌝ }
-    ensures rows { λ r. ⌜ now (rows .exit) ≡ bootstrapCall (now (state .entry)) (now (rows .entry)) (now (segments .entry)) (now (bytes .entry)) .rows ⌝ }
-    ensures segments { λ r. ⌜ now (segments .exit) ≡ bootstrapCall (now (state .entry)) (now (rows .entry)) (now (segments .entry)) (now (bytes .entry)) .segments ⌝ }
+    ensures { λ r. ⌜ called r (now (state .exit)) (now (rows .exit)) (now (segments .exit)) ≡ bootstrapCall (now (state .entry)) (now (rows .entry)) (now (segments .entry)) (now (bytes .entry)) ⌝ }
 {
     host_calls::bootstrap(state, rows, segments, bytes)
 }
@@ -114,8 +109,7 @@ pub extern "C" fn pinuglaw_bootstrap(
 // or 7.
 #[no_mangle]
 pub extern "C" fn pinuglaw_handshake(state: &[u64], handshake: &mut [u64]) -> u64
-    ensures number { λ r. ⌜ r ≡ handshakeCall (now (state .entry)) (now (handshake .entry)) .number ⌝ }
-    ensures handshake { λ r. ⌜ now (handshake .exit) ≡ handshakeCall (now (state .entry)) (now (handshake .entry)) .out ⌝ }
+    ensures { λ r. ⌜ answered r (now (handshake .exit)) ≡ handshakeCall (now (state .entry)) (now (handshake .entry)) ⌝ }
 {
     host_calls::new_handshake(state, handshake)
 }
@@ -130,11 +124,7 @@ pub extern "C" fn pinuglaw_step(
     handshake: &mut [u64],
     message: &[u64],
 ) -> u64
-    ensures number { λ r. ⌜ r ≡ stepCall (now (state .entry)) (now (rows .entry)) (now (segments .entry)) (now (handshake .entry)) (now (message .entry)) .number ⌝ }
-    ensures state { λ r. ⌜ now (state .exit) ≡ stepCall (now (state .entry)) (now (rows .entry)) (now (segments .entry)) (now (handshake .entry)) (now (message .entry)) .state ⌝ }
-    ensures rows { λ r. ⌜ now (rows .exit) ≡ stepCall (now (state .entry)) (now (rows .entry)) (now (segments .entry)) (now (handshake .entry)) (now (message .entry)) .rows ⌝ }
-    ensures segments { λ r. ⌜ now (segments .exit) ≡ stepCall (now (state .entry)) (now (rows .entry)) (now (segments .entry)) (now (handshake .entry)) (now (message .entry)) .segments ⌝ }
-    ensures handshake { λ r. ⌜ now (handshake .exit) ≡ stepCall (now (state .entry)) (now (rows .entry)) (now (segments .entry)) (now (handshake .entry)) (now (message .entry)) .handshake ⌝ }
+    ensures { λ r. ⌜ stepCalled r (now (state .exit)) (now (rows .exit)) (now (segments .exit)) (now (handshake .exit)) ≡ stepCall (now (state .entry)) (now (rows .entry)) (now (segments .entry)) (now (handshake .entry)) (now (message .entry)) ⌝ }
 {
     host_calls::step(state, rows, segments, handshake, message)
 }
@@ -150,11 +140,7 @@ pub extern "C" fn pinuglaw_replay(
     messages: &[u64],
     answers: &mut [u64],
 ) -> u64
-    ensures number { λ r. ⌜ r ≡ replayCall (now (state .entry)) (now (rows .entry)) (now (segments .entry)) (now (messages .entry)) (now (answers .entry)) .number ⌝ }
-    ensures state { λ r. ⌜ now (state .exit) ≡ replayCall (now (state .entry)) (now (rows .entry)) (now (segments .entry)) (now (messages .entry)) (now (answers .entry)) .state ⌝ }
-    ensures rows { λ r. ⌜ now (rows .exit) ≡ replayCall (now (state .entry)) (now (rows .entry)) (now (segments .entry)) (now (messages .entry)) (now (answers .entry)) .rows ⌝ }
-    ensures segments { λ r. ⌜ now (segments .exit) ≡ replayCall (now (state .entry)) (now (rows .entry)) (now (segments .entry)) (now (messages .entry)) (now (answers .entry)) .segments ⌝ }
-    ensures answers { λ r. ⌜ now (answers .exit) ≡ replayCall (now (state .entry)) (now (rows .entry)) (now (segments .entry)) (now (messages .entry)) (now (answers .entry)) .answers ⌝ }
+    ensures { λ r. ⌜ replayCalled r (now (state .exit)) (now (rows .exit)) (now (segments .exit)) (now (answers .exit)) ≡ replayCall (now (state .entry)) (now (rows .entry)) (now (segments .entry)) (now (messages .entry)) (now (answers .entry)) ⌝ }
 {
     host_replay::replay(state, rows, segments, messages, answers)
 }
@@ -165,8 +151,7 @@ pub extern "C" fn pinuglaw_replay(
 // The last sequence applied, into one word.
 #[no_mangle]
 pub extern "C" fn pinuglaw_last_sequence(state: &[u64], rows: &[u64], out: &mut [u64]) -> u64
-    ensures number { λ r. ⌜ r ≡ lastCall (now (state .entry)) (now (rows .entry)) (now (out .entry)) .number ⌝ }
-    ensures out { λ r. ⌜ now (out .exit) ≡ lastCall (now (state .entry)) (now (rows .entry)) (now (out .entry)) .out ⌝ }
+    ensures { λ r. ⌜ answered r (now (out .exit)) ≡ lastCall (now (state .entry)) (now (rows .entry)) (now (out .entry)) ⌝ }
 {
     host_views::last_sequence(state, rows, out)
 }
@@ -174,8 +159,7 @@ pub extern "C" fn pinuglaw_last_sequence(state: &[u64], rows: &[u64], out: &mut 
 // The best bid and ask, into four words: whether there is one, and its price, of each.
 #[no_mangle]
 pub extern "C" fn pinuglaw_best(state: &[u64], rows: &[u64], out: &mut [u64]) -> u64
-    ensures number { λ r. ⌜ r ≡ bestCall (now (state .entry)) (now (rows .entry)) (now (out .entry)) .number ⌝ }
-    ensures out { λ r. ⌜ now (out .exit) ≡ bestCall (now (state .entry)) (now (rows .entry)) (now (out .entry)) .out ⌝ }
+    ensures { λ r. ⌜ answered r (now (out .exit)) ≡ bestCall (now (state .entry)) (now (rows .entry)) (now (out .entry)) ⌝ }
 {
     host_views::best(state, rows, out)
 }
@@ -192,8 +176,7 @@ pub extern "C" fn pinuglaw_audit(state: &[u64], rows: &[u64]) -> u64
 // nothing, where the book is not invalid.
 #[no_mangle]
 pub extern "C" fn pinuglaw_invalidation(state: &[u64], out: &mut [u64]) -> u64
-    ensures number { λ r. ⌜ r ≡ invalidationCall (now (state .entry)) (now (out .entry)) .number ⌝ }
-    ensures out { λ r. ⌜ now (out .exit) ≡ invalidationCall (now (state .entry)) (now (out .entry)) .out ⌝ }
+    ensures { λ r. ⌜ answered r (now (out .exit)) ≡ invalidationCall (now (state .entry)) (now (out .entry)) ⌝ }
 {
     host_views::invalidation(state, out)
 }
@@ -207,8 +190,7 @@ pub extern "C" fn pinuglaw_segment(
     place: usize,
     out: &mut [u64],
 ) -> u64
-    ensures number { λ r. ⌜ r ≡ segmentCall (now (state .entry)) (now (segments .entry)) place (now (out .entry)) .number ⌝ }
-    ensures out { λ r. ⌜ now (out .exit) ≡ segmentCall (now (state .entry)) (now (segments .entry)) place (now (out .entry)) .out ⌝ }
+    ensures { λ r. ⌜ answered r (now (out .exit)) ≡ segmentCall (now (state .entry)) (now (segments .entry)) place (now (out .entry)) ⌝ }
 {
     host_views::segment(state, segments, place, out)
 }
@@ -224,12 +206,9 @@ pub extern "C" fn pinuglaw_level_queue(
     out: &mut [u64],
     count: &mut [u64],
 ) -> u64
-    ensures number { λ r. ⌜ r ≡ queueCall (now (state .entry)) (now (rows .entry)) (now (scratch .entry)) side price (now (out .entry)) (now (count .entry)) .number ⌝ }
-    ensures scratch { λ r. ⌜ now (scratch .exit) ≡ queueCall (now (state .entry)) (now (rows .entry)) (now (scratch .entry)) side price (now (out .entry)) (now (count .entry)) .scratch ⌝ }
-    ensures out { λ r. ⌜ now (out .exit) ≡ queueCall (now (state .entry)) (now (rows .entry)) (now (scratch .entry)) side price (now (out .entry)) (now (count .entry)) .out ⌝ }
-    ensures count { λ r. ⌜ now (count .exit) ≡ queueCall (now (state .entry)) (now (rows .entry)) (now (scratch .entry)) side price (now (out .entry)) (now (count .entry)) .count ⌝ }
+    ensures { λ r. ⌜ levelCalled r (now (scratch .exit)) (now (out .exit)) (now (count .exit)) ≡ queueCall (now (state .entry)) (now (rows .entry)) (now (scratch .entry)) side price (now (out .entry)) (now (count .entry)) ⌝ }
 {
-    host_views::level_queue(state, rows, scratch, side, price, out, count)
+    host_levels::level_queue(state, rows, scratch, side, price, out, count)
 }
 
 // The levels of a side, three words each, and their number.
@@ -242,12 +221,9 @@ pub extern "C" fn pinuglaw_priority_profile(
     out: &mut [u64],
     count: &mut [u64],
 ) -> u64
-    ensures number { λ r. ⌜ r ≡ profileCall (now (state .entry)) (now (rows .entry)) (now (scratch .entry)) side (now (out .entry)) (now (count .entry)) .number ⌝ }
-    ensures scratch { λ r. ⌜ now (scratch .exit) ≡ profileCall (now (state .entry)) (now (rows .entry)) (now (scratch .entry)) side (now (out .entry)) (now (count .entry)) .scratch ⌝ }
-    ensures out { λ r. ⌜ now (out .exit) ≡ profileCall (now (state .entry)) (now (rows .entry)) (now (scratch .entry)) side (now (out .entry)) (now (count .entry)) .out ⌝ }
-    ensures count { λ r. ⌜ now (count .exit) ≡ profileCall (now (state .entry)) (now (rows .entry)) (now (scratch .entry)) side (now (out .entry)) (now (count .entry)) .count ⌝ }
+    ensures { λ r. ⌜ levelCalled r (now (scratch .exit)) (now (out .exit)) (now (count .exit)) ≡ profileCall (now (state .entry)) (now (rows .entry)) (now (scratch .entry)) side (now (out .entry)) (now (count .entry)) ⌝ }
 {
-    host_views::priority_profile(state, rows, scratch, side, out, count)
+    host_levels::priority_profile(state, rows, scratch, side, out, count)
 }
 
 // The levels of a side, two words each, and their number.
@@ -260,12 +236,9 @@ pub extern "C" fn pinuglaw_l2(
     out: &mut [u64],
     count: &mut [u64],
 ) -> u64
-    ensures number { λ r. ⌜ r ≡ l2Call (now (state .entry)) (now (rows .entry)) (now (scratch .entry)) side (now (out .entry)) (now (count .entry)) .number ⌝ }
-    ensures scratch { λ r. ⌜ now (scratch .exit) ≡ l2Call (now (state .entry)) (now (rows .entry)) (now (scratch .entry)) side (now (out .entry)) (now (count .entry)) .scratch ⌝ }
-    ensures out { λ r. ⌜ now (out .exit) ≡ l2Call (now (state .entry)) (now (rows .entry)) (now (scratch .entry)) side (now (out .entry)) (now (count .entry)) .out ⌝ }
-    ensures count { λ r. ⌜ now (count .exit) ≡ l2Call (now (state .entry)) (now (rows .entry)) (now (scratch .entry)) side (now (out .entry)) (now (count .entry)) .count ⌝ }
+    ensures { λ r. ⌜ levelCalled r (now (scratch .exit)) (now (out .exit)) (now (count .exit)) ≡ l2Call (now (state .entry)) (now (rows .entry)) (now (scratch .entry)) side (now (out .entry)) (now (count .entry)) ⌝ }
 {
-    host_views::l2(state, rows, scratch, side, out, count)
+    host_levels::l2(state, rows, scratch, side, out, count)
 }
 
 // The same of a book that is invalid; 256 of one that is not.
@@ -278,12 +251,9 @@ pub extern "C" fn pinuglaw_stale_l2(
     out: &mut [u64],
     count: &mut [u64],
 ) -> u64
-    ensures number { λ r. ⌜ r ≡ staleCall (now (state .entry)) (now (rows .entry)) (now (scratch .entry)) side (now (out .entry)) (now (count .entry)) .number ⌝ }
-    ensures scratch { λ r. ⌜ now (scratch .exit) ≡ staleCall (now (state .entry)) (now (rows .entry)) (now (scratch .entry)) side (now (out .entry)) (now (count .entry)) .scratch ⌝ }
-    ensures out { λ r. ⌜ now (out .exit) ≡ staleCall (now (state .entry)) (now (rows .entry)) (now (scratch .entry)) side (now (out .entry)) (now (count .entry)) .out ⌝ }
-    ensures count { λ r. ⌜ now (count .exit) ≡ staleCall (now (state .entry)) (now (rows .entry)) (now (scratch .entry)) side (now (out .entry)) (now (count .entry)) .count ⌝ }
+    ensures { λ r. ⌜ levelCalled r (now (scratch .exit)) (now (out .exit)) (now (count .exit)) ≡ staleCall (now (state .entry)) (now (rows .entry)) (now (scratch .entry)) side (now (out .entry)) (now (count .entry)) ⌝ }
 {
-    host_views::stale_l2(state, rows, scratch, side, out, count)
+    host_levels::stale_l2(state, rows, scratch, side, out, count)
 }
 
 // An estimate for an order created now at a side and price, into eight words, and the orders ahead of it, three words each.
@@ -296,9 +266,7 @@ pub extern "C" fn pinuglaw_queue_estimate(
     ahead: &mut [u64],
     estimate: &mut [u64],
 ) -> u64
-    ensures number { λ r. ⌜ r ≡ estimateCall (now (state .entry)) (now (rows .entry)) side price (now (ahead .entry)) (now (estimate .entry)) .number ⌝ }
-    ensures ahead { λ r. ⌜ now (ahead .exit) ≡ estimateCall (now (state .entry)) (now (rows .entry)) side price (now (ahead .entry)) (now (estimate .entry)) .ahead ⌝ }
-    ensures estimate { λ r. ⌜ now (estimate .exit) ≡ estimateCall (now (state .entry)) (now (rows .entry)) side price (now (ahead .entry)) (now (estimate .entry)) .estimate ⌝ }
+    ensures { λ r. ⌜ estimateCalled r (now (ahead .exit)) (now (estimate .exit)) ≡ estimateCall (now (state .entry)) (now (rows .entry)) side price (now (ahead .entry)) (now (estimate .entry)) ⌝ }
 {
     host_estimates::queue_estimate(state, rows, side, price, ahead, estimate)
 }
@@ -312,8 +280,7 @@ pub extern "C" fn pinuglaw_queue_estimate_own(
     id_low: u64,
     estimate: &mut [u64],
 ) -> u64
-    ensures number { λ r. ⌜ r ≡ ownCall (now (state .entry)) (now (rows .entry)) «id_high» «id_low» (now (estimate .entry)) .number ⌝ }
-    ensures estimate { λ r. ⌜ now (estimate .exit) ≡ ownCall (now (state .entry)) (now (rows .entry)) «id_high» «id_low» (now (estimate .entry)) .out ⌝ }
+    ensures { λ r. ⌜ answered r (now (estimate .exit)) ≡ ownCall (now (state .entry)) (now (rows .entry)) «id_high» «id_low» (now (estimate .entry)) ⌝ }
 {
     host_estimates::queue_estimate_own(state, rows, id_high, id_low, estimate)
 }
@@ -327,8 +294,7 @@ pub extern "C" fn pinuglaw_volume_ahead(
     ahead: &[u64],
     out: &mut [u64],
 ) -> u64
-    ensures number { λ r. ⌜ r ≡ aheadCall (now (state .entry)) (now (rows .entry)) (now (estimate .entry)) (now (ahead .entry)) (now (out .entry)) .number ⌝ }
-    ensures out { λ r. ⌜ now (out .exit) ≡ aheadCall (now (state .entry)) (now (rows .entry)) (now (estimate .entry)) (now (ahead .entry)) (now (out .entry)) .out ⌝ }
+    ensures { λ r. ⌜ answered r (now (out .exit)) ≡ aheadCall (now (state .entry)) (now (rows .entry)) (now (estimate .entry)) (now (ahead .entry)) (now (out .entry)) ⌝ }
 {
     host_estimates::volume_ahead(state, rows, estimate, ahead, out)
 }

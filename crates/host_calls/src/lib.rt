@@ -14,7 +14,7 @@ use host_records::last_record;
 use host_records::put_record;
 use host_records::rewrite_record;
 use host_words::load_book;
-use host_words::load_message;
+use host_messages::load_message;
 use host_words::sets_status;
 use host_words::store_book;
 use piece::MESSAGE_WORDS;

@@ -2,9 +2,9 @@
 use host_boundary::boundary;
 use host_boundary::no_bit;
 use host_boundary::no_estimate;
-use host_reads::load_estimate;
-use host_reads::store_ahead;
-use host_reads::store_estimate;
+use host_estimate_words::load_estimate;
+use host_estimate_words::store_ahead;
+use host_estimate_words::store_estimate;
 use host_reads::unwritten;
 use host_words::load_book;
 use host_words::load_side;

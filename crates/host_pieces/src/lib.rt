@@ -1,7 +1,7 @@
 // Pieces read into words: the readers that `host` exports.
+use host_messages::event_words;
+use host_messages::kind_word;
 use host_words::bits;
-use host_words::event_words;
-use host_words::kind_word;
 use host_words::put;
 use piece::ReadMessage;
 use piece::ReadSnapshot;
@@ -13,7 +13,7 @@ pub fn read_message(bytes: &[u8], out: &mut [u64]) -> u64
     ensures number { λ r. ⌜ r ≡ messageNumber (now (out .entry)) (readMessage (now (bytes .entry))) ⌝ }
     ensures words { λ r. ⌜ now (out .exit) ≡ messageOut (now (out .entry)) (readMessage (now (bytes .entry))) ⌝ }
 {
-    match piece::read_message(bytes) {
+    match piece_messages::read_message(bytes) {
         ReadMessage::Message(m) => {
             if out.len() < 21 {
                 return 7;
@@ -42,7 +42,7 @@ pub fn read_snapshot(bytes: &[u8], out: &mut [u64]) -> u64
     ensures number { λ r. ⌜ r ≡ snapshotNumber (now (out .entry)) (readSnapshot (now (bytes .entry))) ⌝ }
     ensures words { λ r. ⌜ now (out .exit) ≡ snapshotOut (now (out .entry)) (readSnapshot (now (bytes .entry))) ⌝ }
 {
-    match piece::read_snapshot(bytes) {
+    match piece_snapshots::read_snapshot(bytes) {
         ReadSnapshot::Snapshot(v) => {
             if out.len() < 5 {
                 return 7;
@@ -72,7 +72,7 @@ pub fn snapshot_order(bytes: &[u8], place: usize, out: &mut [u64]) -> u64
     if out.len() < 4 {
         return 7;
     }
-    let order = piece::snapshot_order(bytes, place);
+    let order = piece_snapshots::snapshot_order(bytes, place);
     let id = order.order_id;
     put(
         out,

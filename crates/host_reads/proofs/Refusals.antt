@@ -10,9 +10,6 @@ use Rattle.reconstructor_answers.specs.Numbers.{stateErrorNumber}
 use Rattle.reconstructor_view.specs.declared.ViewError.{ViewError}
 use Rattle.reconstructor_view.specs.declared.ViewError.the-variants as views
 use Rattle.reconstructor_view.specs.Numbers.{viewErrorTold}
-use Rattle.queue.specs.declared.QueueError.{QueueError}
-use Rattle.queue.specs.declared.QueueError.the-variants as errors
-use Rattle.queue.specs.Numbers.{queueErrorTold}
 use Rattle.host_reads.specs.Answers.{answered, toldIn, lastly}
 
 pub state-refused : (e : StateError) (out : List ℕ) → toldIn (told (stateErrorNumber e) []) out ≡ answered (stateErrorNumber e) out
@@ -24,14 +21,6 @@ pub view-refused : (e : ViewError) (out : List ℕ) → toldIn (viewErrorTold e)
 view-refused (views.Unusable e) out = state-refused e out
 view-refused views.NotBootstrapped out = refl
 view-refused (views.Invalidated i) out = refl
-
-pub queue-refused : (e : QueueError) (out : List ℕ) → toldIn (queueErrorTold e) out ≡ answered (queueErrorTold e .number) out
-queue-refused (errors.View e) out = view-refused e out
-queue-refused errors.OutputTooSmall out = refl
-queue-refused errors.AheadListShort out = refl
-queue-refused errors.StaleEstimate out = refl
-queue-refused errors.PriorityUnknown out = refl
-queue-refused errors.NotResting out = refl
 
 pub view-lastly : (e : ViewError) → lastly (viewErrorTold e .number) ≡ viewErrorTold e .number
 view-lastly (views.Unusable LimitAboveCeiling) = refl

@@ -1,11 +1,5 @@
-// The values that cross the boundary as words, both ways; specs/Block.antt, and Words.antt of crate `piece`, have the layouts. Crate `host` exports the calls.
-use message::ChangeReason;
-use message::DoneReason;
-use message::L3Event;
-use message::L3Message;
+// A state from its block and as a block, and the values that words are made of; specs/Block.antt has the layouts. Crate `host_messages` has a message's words.
 use message::L3Side;
-use message::OptionalAmount;
-use message::OrderId;
 use message::ProductId;
 use reconstructor_answers::ApplyAnswer;
 use reconstructor_answers::Discrepancy;
@@ -23,10 +17,9 @@ ghost use Prim.Native.Nat.{_+_, _≤_};
 ghost use lib.ListN.{length, take, drop};
 ghost use mir.Syntax.{w64};
 ghost use mir.Val.{ofZ, toZ};
-ghost use Rattle.piece.specs.Piece.{sideOf, doneReasonOf, changeReasonOf};
-ghost use Rattle.piece.specs.Encode.{kindByte, sideByte, doneReasonByte, changeReasonByte, presentBit, optionalWord};
-ghost use Rattle.piece.specs.Words.{eventWords};
-ghost use Rattle.host_words.specs.Block.{sizeDecreaseOf, reasonOf, discrepancyOf, kindOf, statusOf, rulesOf, countsOf, bookOf, kindWords, statusWords, statusAfter, restList, restored, optionalOf, receivedOf, openOf, doneOf, matchOf, changeOf, eventOf, messageOf, setsStatus};
+ghost use Rattle.piece.specs.Piece.{sideOf};
+ghost use Rattle.piece.specs.Encode.{sideByte};
+ghost use Rattle.host_words.specs.Block.{sizeDecreaseOf, reasonOf, discrepancyOf, kindOf, statusOf, rulesOf, countsOf, bookOf, kindWords, statusWords, statusAfter, restList, restored, setsStatus};
 
 // The words of a state.
 pub const STATE_WORDS: usize = 27;
@@ -44,199 +37,12 @@ pub fn bits(amount: i64) -> u64
     }
 }
 
-fn optional_bits(amount: OptionalAmount) -> u64
-    ensures { λ r. ⌜ r ≡ optionalWord amount ⌝ }
-{
-    match amount {
-        OptionalAmount::Absent => 0,
-        OptionalAmount::Given(a) => bits(a),
-    }
-}
-
-fn is_present(amount: OptionalAmount) -> u64
-    ensures { λ r. ⌜ r ≡ presentBit amount ⌝ }
-{
-    match amount {
-        OptionalAmount::Absent => 0,
-        OptionalAmount::Given(_) => 1,
-    }
-}
-
 pub fn side_word(side: L3Side) -> u64
     ensures { λ r. ⌜ r ≡ sideByte side ⌝ }
 {
     match side {
         L3Side::Buy => 0,
         L3Side::Sell => 1,
-    }
-}
-
-fn done_reason_word(reason: DoneReason) -> u64
-    ensures { λ r. ⌜ r ≡ doneReasonByte reason ⌝ }
-{
-    match reason {
-        DoneReason::Filled => 0,
-        DoneReason::Canceled => 1,
-    }
-}
-
-fn change_reason_word(reason: ChangeReason) -> u64
-    ensures { λ r. ⌜ r ≡ changeReasonByte reason ⌝ }
-{
-    match reason {
-        ChangeReason::Stp => 0,
-        ChangeReason::ModifyOrder => 1,
-    }
-}
-
-pub fn kind_word(event: L3Event) -> u64
-    ensures { λ r. ⌜ r ≡ kindByte event ⌝ }
-{
-    match event {
-        L3Event::Received { .. } => 1,
-        L3Event::Open { .. } => 2,
-        L3Event::Done { .. } => 3,
-        L3Event::Match { .. } => 4,
-        L3Event::Change { .. } => 5,
-        L3Event::Unsupported { .. } => 6,
-    }
-}
-
-// The fields of an event in the Rust's order, and 0 past the last.
-pub fn event_words(event: L3Event) -> [u64; 16]
-    ensures { λ r. ⌜ r ≡ eventWords event ⌝ }
-{
-    match event {
-        L3Event::Received { order_id, side } => {
-            [
-                order_id.high,
-                order_id.low,
-                side_word(side),
-                0,
-                0,
-                0,
-                0,
-                0,
-                0,
-                0,
-                0,
-                0,
-                0,
-                0,
-                0,
-                0,
-            ]
-        }
-        L3Event::Open {
-            order_id,
-            side,
-            price,
-            remaining,
-        } => {
-            [
-                order_id.high,
-                order_id.low,
-                side_word(side),
-                bits(price),
-                bits(remaining),
-                0,
-                0,
-                0,
-                0,
-                0,
-                0,
-                0,
-                0,
-                0,
-                0,
-                0,
-            ]
-        }
-        L3Event::Done {
-            order_id,
-            side,
-            price,
-            reason,
-            remaining,
-        } => {
-            [
-                order_id.high,
-                order_id.low,
-                side_word(side),
-                is_present(price),
-                optional_bits(price),
-                done_reason_word(reason),
-                is_present(remaining),
-                optional_bits(remaining),
-                0,
-                0,
-                0,
-                0,
-                0,
-                0,
-                0,
-                0,
-            ]
-        }
-        L3Event::Match {
-            maker_id,
-            taker_id,
-            side,
-            price,
-            size,
-        } => {
-            [
-                maker_id.high,
-                maker_id.low,
-                taker_id.high,
-                taker_id.low,
-                side_word(side),
-                bits(price),
-                bits(size),
-                0,
-                0,
-                0,
-                0,
-                0,
-                0,
-                0,
-                0,
-                0,
-            ]
-        }
-        L3Event::Change {
-            order_id,
-            side,
-            reason,
-            price,
-            old_size,
-            new_size,
-            old_price,
-            new_price,
-            new_funds,
-        } => {
-            [
-                order_id.high,
-                order_id.low,
-                side_word(side),
-                change_reason_word(reason),
-                is_present(price),
-                optional_bits(price),
-                is_present(old_size),
-                optional_bits(old_size),
-                is_present(new_size),
-                optional_bits(new_size),
-                is_present(old_price),
-                optional_bits(old_price),
-                is_present(new_price),
-                optional_bits(new_price),
-                is_present(new_funds),
-                optional_bits(new_funds),
-            ]
-        }
-        L3Event::Unsupported { kind } => {
-            [kind as u64, 0, 0, 0, 0, 0, 0, 0, 0, 0, 0, 0, 0, 0, 0, 0]
-        }
     }
 }
 
@@ -522,7 +328,7 @@ pub fn store_book(words: &mut [u64], book: BookReconstructor, sets: bool)
     store_rest(words, book);
 }
 
-// ---- a message from its words
+// ---- a value from words
 
 // The word's bits as two's complement.
 pub fn signed(word: u64) -> i64
@@ -535,155 +341,12 @@ pub fn signed(word: u64) -> i64
     }
 }
 
-fn load_optional(present: u64, word: u64) -> OptionalAmount
-    ensures { λ r. ⌜ r ≡ optionalOf present word ⌝ }
-{
-    match present {
-        0 => OptionalAmount::Absent,
-        _ => OptionalAmount::Given(signed(word)),
-    }
-}
-
 pub fn load_side(word: u64) -> L3Side
     ensures { λ r. ⌜ r ≡ sideOf word ⌝ }
 {
     match word {
         0 => L3Side::Buy,
         _ => L3Side::Sell,
-    }
-}
-
-fn load_done_reason(word: u64) -> DoneReason
-    ensures { λ r. ⌜ r ≡ doneReasonOf word ⌝ }
-{
-    match word {
-        0 => DoneReason::Filled,
-        _ => DoneReason::Canceled,
-    }
-}
-
-fn load_change_reason(word: u64) -> ChangeReason
-    ensures { λ r. ⌜ r ≡ changeReasonOf word ⌝ }
-{
-    match word {
-        0 => ChangeReason::Stp,
-        _ => ChangeReason::ModifyOrder,
-    }
-}
-
-fn load_received(words: &[u64]) -> L3Event
-    requires { ⌜ 21 ≤ length (now words) ⌝ }
-    ensures { λ r. ⌜ r ≡ receivedOf (now (words .entry)) ⌝ }
-{
-    L3Event::Received {
-        order_id: OrderId {
-            high: words[5],
-            low: words[6],
-        },
-        side: load_side(words[7]),
-    }
-}
-
-fn load_open(words: &[u64]) -> L3Event
-    requires { ⌜ 21 ≤ length (now words) ⌝ }
-    ensures { λ r. ⌜ r ≡ openOf (now (words .entry)) ⌝ }
-{
-    L3Event::Open {
-        order_id: OrderId {
-            high: words[5],
-            low: words[6],
-        },
-        side: load_side(words[7]),
-        price: signed(words[8]),
-        remaining: signed(words[9]),
-    }
-}
-
-fn load_done(words: &[u64]) -> L3Event
-    requires { ⌜ 21 ≤ length (now words) ⌝ }
-    ensures { λ r. ⌜ r ≡ doneOf (now (words .entry)) ⌝ }
-{
-    L3Event::Done {
-        order_id: OrderId {
-            high: words[5],
-            low: words[6],
-        },
-        side: load_side(words[7]),
-        price: load_optional(words[8], words[9]),
-        reason: load_done_reason(words[10]),
-        remaining: load_optional(words[11], words[12]),
-    }
-}
-
-fn load_match(words: &[u64]) -> L3Event
-    requires { ⌜ 21 ≤ length (now words) ⌝ }
-    ensures { λ r. ⌜ r ≡ matchOf (now (words .entry)) ⌝ }
-{
-    L3Event::Match {
-        maker_id: OrderId {
-            high: words[5],
-            low: words[6],
-        },
-        taker_id: OrderId {
-            high: words[7],
-            low: words[8],
-        },
-        side: load_side(words[9]),
-        price: signed(words[10]),
-        size: signed(words[11]),
-    }
-}
-
-fn load_change(words: &[u64]) -> L3Event
-    requires { ⌜ 21 ≤ length (now words) ⌝ }
-    ensures { λ r. ⌜ r ≡ changeOf (now (words .entry)) ⌝ }
-{
-    L3Event::Change {
-        order_id: OrderId {
-            high: words[5],
-            low: words[6],
-        },
-        side: load_side(words[7]),
-        reason: load_change_reason(words[8]),
-        price: load_optional(words[9], words[10]),
-        old_size: load_optional(words[11], words[12]),
-        new_size: load_optional(words[13], words[14]),
-        old_price: load_optional(words[15], words[16]),
-        new_price: load_optional(words[17], words[18]),
-        new_funds: load_optional(words[19], words[20]),
-    }
-}
-
-fn load_event(words: &[u64]) -> L3Event
-    requires { ⌜ 21 ≤ length (now words) ⌝ }
-    ensures { λ r. ⌜ r ≡ eventOf (now (words .entry)) ⌝ }
-{
-    let kind = words[0];
-    match kind {
-        1 => load_received(words),
-        2 => load_open(words),
-        3 => load_done(words),
-        4 => load_match(words),
-        5 => load_change(words),
-        _ => L3Event::Unsupported {
-            kind: (words[5] % 4294967296) as u32,
-        },
-    }
-}
-
-// The message that 21 words are: any words are one.
-pub fn load_message(words: &[u64]) -> L3Message
-    requires { ⌜ 21 ≤ length (now words) ⌝ }
-    ensures { λ r. ⌜ r ≡ messageOf (now (words .entry)) ⌝ }
-{
-    L3Message {
-        product_id: ProductId {
-            high: words[1],
-            low: words[2],
-        },
-        sequence: words[3],
-        time_us: words[4],
-        event: load_event(words),
     }
 }
 

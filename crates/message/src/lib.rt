@@ -1,7 +1,6 @@
 // Order by order (L3) messages and snapshots: the values of message.rs. Crate `piece` reads them from bytes.
 ghost use mathlib.Core.Path.{_≡_};
 ghost use Rattle.message.specs.Same.{sameSide, sameId, sameProduct};
-ghost use Rattle.message.specs.Values.{inRange, optionalInRange, eventInRange};
 
 pub mod amount; // amount.rt: tests on amounts
 
@@ -119,7 +118,7 @@ pub struct SnapshotOrder {
     pub size: i64,
 }
 
-// A level 3 snapshot without its orders, which `piece::snapshot_order` reads by place: first the bids, then the asks.
+// A level 3 snapshot without its orders, which `piece_snapshots::snapshot_order` reads by place: first the bids, then the asks.
 pub struct L3Snapshot {
     pub product_id: ProductId,
     pub sequence: u64,
@@ -130,73 +129,6 @@ pub struct L3Snapshot {
 
 // The largest amount, and its negative the smallest.
 pub const AMOUNT_LIMIT: i64 = 1000000000000000;
-
-pub fn in_range(amount: i64) -> bool
-    ensures { λ r. ⌜ r ≡ inRange amount ⌝ }
-{
-    if -AMOUNT_LIMIT <= amount {
-        amount <= AMOUNT_LIMIT
-    } else {
-        false
-    }
-}
-
-fn optional_in_range(amount: OptionalAmount) -> bool
-    ensures { λ r. ⌜ r ≡ optionalInRange amount ⌝ }
-{
-    match amount {
-        OptionalAmount::Absent => true,
-        OptionalAmount::Given(a) => in_range(a),
-    }
-}
-
-// Whether every amount that is present is in range: number 5 is said of a message where this is false.
-pub fn event_in_range(event: L3Event) -> bool
-    ensures { λ r. ⌜ r ≡ eventInRange event ⌝ }
-{
-    match event {
-        L3Event::Received { .. } => true,
-        L3Event::Open {
-            order_id,
-            side,
-            price,
-            remaining,
-        } => in_range(price) & in_range(remaining),
-        L3Event::Done {
-            order_id,
-            side,
-            price,
-            reason,
-            remaining,
-        } => optional_in_range(price) & optional_in_range(remaining),
-        L3Event::Match {
-            maker_id,
-            taker_id,
-            side,
-            price,
-            size,
-        } => in_range(price) & in_range(size),
-        L3Event::Change {
-            order_id,
-            side,
-            reason,
-            price,
-            old_size,
-            new_size,
-            old_price,
-            new_price,
-            new_funds,
-        } => {
-            optional_in_range(price)
-                & optional_in_range(old_size)
-                & optional_in_range(new_size)
-                & optional_in_range(old_price)
-                & optional_in_range(new_price)
-                & optional_in_range(new_funds)
-        }
-        L3Event::Unsupported { .. } => true,
-    }
-}
 
 pub fn same_side(a: L3Side, b: L3Side) -> bool
     ensures { λ r. ⌜ r ≡ sameSide a b ⌝ }

@@ -139,7 +139,7 @@ fn admit(book: BookReconstructor, message: L3Message) -> Admitted
     ensures { λ r. ⌜ AdmitsFor (admitRefusal (book .«product_id») (book .status) message) (lastOf (book .status)) r ⌝ }
 {
     let event = message.event;
-    if !message::event_in_range(event) {
+    if !message_range::event_in_range(event) {
         return Admitted::Stop(ApplyAnswer::AmountOutOfRange);
     }
     let expected = book.product_id;

@@ -159,7 +159,7 @@ fn snapshot_kind(side: L3Side) -> u64
 fn snapshot_row(bytes: &[u8], bids: usize, place: usize, sequence: u64) -> Resting
     ensures { λ r. ⌜ r ≡ snapshotRow sequence (entryAt bids (now (bytes .entry)) place) ⌝ }
 {
-    let order = piece::snapshot_order(bytes, place);
+    let order = piece_snapshots::snapshot_order(bytes, place);
     let id = order.order_id;
     Resting {
         high: id.high,
@@ -480,7 +480,7 @@ pub fn bootstrap_under(
     if let Checked::Refused(why) = checked {
         return refused(book, SnapshotAnswer::Unusable(why), lent, last);
     }
-    match piece::read_snapshot(bytes) {
+    match piece_snapshots::read_snapshot(bytes) {
         ReadSnapshot::Snapshot(snapshot) => {
             bootstrap_usable(book, rows, lent, last, bytes, snapshot)
         }

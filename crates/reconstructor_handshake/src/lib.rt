@@ -164,7 +164,7 @@ impl Handshake {
             return self.unchanged(book, last, StepAnswer::OtherSegment);
         }
         let event = message.event;
-        if !message::event_in_range(event) {
+        if !message_range::event_in_range(event) {
             let answer = StepAnswer::Stepped(ApplyAnswer::AmountOutOfRange);
             return self.unchanged(book, last, answer);
         }

@@ -31,7 +31,7 @@ returns-2 c =
     (k-read .pinuglaw-read-message .ensures .0)
     (k-if .if1 .left)
     (k-read .pinuglaw-read-message .ensures .1)
-    (rw (k-apply .pinuglaw-apply .ensures .0, k-apply .pinuglaw-apply .ensures .1 .0, k-apply .pinuglaw-apply .ensures .1 .1 .0, k-apply .pinuglaw-apply .ensures .1 .1 .1))
+    (k-apply .pinuglaw-apply .ensures)
 
 pub apply-piece-spec : {M : Type 1} → statement M
 apply-piece-spec =

@@ -31,7 +31,7 @@ returns-2 c =
     (k-read .pinuglaw-read-message .ensures .0)
     (k-if .if1 .left)
     (k-read .pinuglaw-read-message .ensures .1)
-    (rw (k-step .pinuglaw-step .ensures .0, k-step .pinuglaw-step .ensures .1 .0, k-step .pinuglaw-step .ensures .1 .1 .0, k-step .pinuglaw-step .ensures .1 .1 .1 .0, k-step .pinuglaw-step .ensures .1 .1 .1 .1))
+    (k-step .pinuglaw-step .ensures)
 
 pub step-piece-spec : {M : Type 1} → statement M
 step-piece-spec =

@@ -1,0 +1,47 @@
+use mathlib.Core.Path.{sym}
+use Rattle.reconstructor_reads.specs.Reads.{staleRead}
+use Rattle.reconstructor_checks.proofs.Own.{said, said-none}
+use Rattle.host_reads.proofs.Refusals.{state-lastly}
+use borrow.Author.Needs.{needs}
+use Rattle.host_levels.proofs.unwritten_stale.Statement.{statement}
+use Rattle.host_levels.proofs.unwritten_stale.Tie as tie
+
+returns : tie.Need-returns
+unfolding staleRead
+returns c =
+    let k-read-checks = c .before .before .before .before in
+    rw (said _ _ _ (k-read-checks .read-checks .ensures) (c .before .before .why .given .1), c .number .ensures) (sym (state-lastly (c .before .before .why .given .0 .0)))
+
+returns-2 : tie.Need-returns-2
+unfolding staleRead
+returns-2 c =
+    let k-read-checks = c .before .before .before .before in
+    rw (said-none _ _ (k-read-checks .read-checks .ensures) (c .before .before .enum-told .given .1), c .enum-told2 .given .1)
+
+returns-3 : tie.Need-returns-3
+unfolding staleRead
+returns-3 c =
+    let k-read-checks = c .before .before .before .before in
+    rw (said-none _ _ (k-read-checks .read-checks .ensures) (c .before .before .enum-told .given .1), c .enum-told3 .given .1)
+
+returns-4 : tie.Need-returns-4
+unfolding staleRead
+returns-4 c =
+    let k-read-checks = c .before .before .before .before in
+    rw (said-none _ _ (k-read-checks .read-checks .ensures) (c .before .before .enum-told .given .1), c .enum-told4 .given .1)
+
+pub unwritten-stale-spec : {M : Type 1} → statement M
+unwritten-stale-spec =
+    tie.close
+    (tie.spec
+    (λ c κs. search needs)
+    (λ c. search needs)
+    (λ c κs. search needs)
+    (λ c. search needs)
+    (λ c. search needs)
+    (λ c. search needs)
+    (λ c. search needs)
+    returns
+    returns-2
+    returns-3
+    returns-4)

@@ -1,0 +1,73 @@
+// Number 5's test: whether every amount that is present is in range.
+use message::AMOUNT_LIMIT;
+use message::L3Event;
+use message::OptionalAmount;
+ghost use mathlib.Core.Path.{_≡_};
+ghost use Rattle.message.specs.Values.{inRange, optionalInRange, eventInRange};
+
+pub fn in_range(amount: i64) -> bool
+    ensures { λ r. ⌜ r ≡ inRange amount ⌝ }
+{
+    if -AMOUNT_LIMIT <= amount {
+        amount <= AMOUNT_LIMIT
+    } else {
+        false
+    }
+}
+
+fn optional_in_range(amount: OptionalAmount) -> bool
+    ensures { λ r. ⌜ r ≡ optionalInRange amount ⌝ }
+{
+    match amount {
+        OptionalAmount::Absent => true,
+        OptionalAmount::Given(a) => in_range(a),
+    }
+}
+
+// Whether every amount that is present is in range: number 5 is said of a message where this is false.
+pub fn event_in_range(event: L3Event) -> bool
+    ensures { λ r. ⌜ r ≡ eventInRange event ⌝ }
+{
+    match event {
+        L3Event::Received { .. } => true,
+        L3Event::Open {
+            order_id,
+            side,
+            price,
+            remaining,
+        } => in_range(price) & in_range(remaining),
+        L3Event::Done {
+            order_id,
+            side,
+            price,
+            reason,
+            remaining,
+        } => optional_in_range(price) & optional_in_range(remaining),
+        L3Event::Match {
+            maker_id,
+            taker_id,
+            side,
+            price,
+            size,
+        } => in_range(price) & in_range(size),
+        L3Event::Change {
+            order_id,
+            side,
+            reason,
+            price,
+            old_size,
+            new_size,
+            old_price,
+            new_price,
+            new_funds,
+        } => {
+            optional_in_range(price)
+                & optional_in_range(old_size)
+                & optional_in_range(new_size)
+                & optional_in_range(old_price)
+                & optional_in_range(new_price)
+                & optional_in_range(new_funds)
+        }
+        L3Event::Unsupported { .. } => true,
+    }
+}
