@@ -12,6 +12,10 @@ use Rattle.queue.specs.declared.Anchor.{Anchor}
 use Rattle.queue.specs.declared.Anchor.the-variants.{Hypothetical, Own}
 use Rattle.queue.specs.declared.QueueEstimate.{QueueEstimate}
 
+-- words of an estimate
+abbrev pub estimateWords : ℕ
+estimateWords = 8
+
 unfoldable pub anchorOf : List ℕ → Anchor
 anchorOf ws =
     cond (eqb (getD ws 4 0) 0) (Hypothetical (getD ws 5 0) (getD ws 6 0))

@@ -18,10 +18,13 @@ ghost use Prim.Native.Nat.{_≤_};
 ghost use lib.ListN.{length};
 ghost use Rattle.queue.specs.Numbers.{anchorValues, estimateValues, estimateTold, assumptionWord, flagWord, aheadValues, aheadTold};
 ghost use Rattle.host_reads.specs.Answers.{answered, given, toldIn};
-ghost use Rattle.host_estimate_words.specs.Estimates.{anchorOf, estimateOf};
+ghost use Rattle.host_estimate_words.specs.Estimates.{estimateWords, anchorOf, estimateOf};
+
+// Words of an estimate.
+pub const ESTIMATE_WORDS: usize = 8;
 
 fn load_anchor(words: &[u64]) -> Anchor
-    requires { ⌜ 8 ≤ length (now words) ⌝ }
+    requires { ⌜ estimateWords ≤ length (now words) ⌝ }
     ensures { λ r. ⌜ r ≡ anchorOf (now (words .entry)) ⌝ }
 {
     if words[4] == 0 {
@@ -41,7 +44,7 @@ fn load_anchor(words: &[u64]) -> Anchor
 
 // The estimate that eight words are.
 pub fn load_estimate(words: &[u64]) -> QueueEstimate
-    requires { ⌜ 8 ≤ length (now words) ⌝ }
+    requires { ⌜ estimateWords ≤ length (now words) ⌝ }
     ensures { λ r. ⌜ r ≡ estimateOf (now (words .entry)) ⌝ }
 {
     QueueEstimate {

@@ -14,7 +14,7 @@ use Rattle.queue.specs.Numbers.{estimateTold, aheadTold}
 use Rattle.queue.specs.Estimates.{EstimateParts, queueEstimate, queueEstimateOwn, volumeAhead}
 use Rattle.host_boundary.specs.Boundary.{noBit, noEstimate, boundary, unlessTurned}
 use Rattle.host_reads.specs.Answers.{Answered, answered, toldIn, lastly}
-use Rattle.host_estimate_words.specs.Estimates.{estimateOf}
+use Rattle.host_estimate_words.specs.Estimates.{estimateWords, estimateOf}
 
 pub record EstimateCall : Type 0 where
   pub number : ℕ
@@ -27,7 +27,7 @@ estimateCalled k l e = record { number = k; ahead = l; estimate = e }
 -- what is left of the ahead-list, where there are words for the estimate; else it is as lent
 abbrev pub afterEstimate : List ℕ → List ℕ → EstimateParts → EstimateCall
 afterEstimate l e p =
-    cond (ltb (length e) 8) (estimateCalled (lastly (estimateTold (p .answer) .number)) l e)
+    cond (ltb (length e) estimateWords) (estimateCalled (lastly (estimateTold (p .answer) .number)) l e)
     (estimateCalled (toldIn (estimateTold (p .answer)) e .number) (p .ahead) (toldIn (estimateTold (p .answer)) e .out))
 
 unfoldable pub estimateCall : List ℕ → List ℕ → ℕ → ℕ → List ℕ → List ℕ → EstimateCall
@@ -42,5 +42,5 @@ ownCall st ws high low e =
 
 unfoldable pub aheadCall : List ℕ → List ℕ → List ℕ → List ℕ → List ℕ → Answered
 aheadCall st ws e l out =
-    unlessTurned (boundary st (extentOf (memory ws)) false (ltb (length e) 8) (noEstimate e)) (λ (k : ℕ). answered k out)
+    unlessTurned (boundary st (extentOf (memory ws)) false (ltb (length e) estimateWords) (noEstimate e)) (λ (k : ℕ). answered k out)
     (toldIn (aheadTold (volumeAhead ceiling (bookOf st) (memory ws) (estimateOf e) l)) out)

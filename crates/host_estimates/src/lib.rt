@@ -2,6 +2,7 @@
 use host_boundary::boundary;
 use host_boundary::no_bit;
 use host_boundary::no_estimate;
+use host_estimate_words::ESTIMATE_WORDS;
 use host_estimate_words::load_estimate;
 use host_estimate_words::store_ahead;
 use host_estimate_words::store_estimate;
@@ -29,7 +30,7 @@ pub fn queue_estimate(
         return stop;
     }
     let book = load_book(state);
-    if estimate.len() < 8 {
+    if estimate.len() < ESTIMATE_WORDS {
         return unwritten(book, rows, false);
     }
     let answer = queue::queue_estimate(book, rows, load_side(side), signed(price), ahead);
@@ -66,7 +67,7 @@ pub fn volume_ahead(
 ) -> u64
     ensures { λ r. ⌜ answered r (now (out .exit)) ≡ aheadCall (now (state .entry)) (now (rows .entry)) (now (estimate .entry)) (now (ahead .entry)) (now (out .entry)) ⌝ }
 {
-    let short = estimate.len() < 8;
+    let short = estimate.len() < ESTIMATE_WORDS;
     let stop = boundary(state, rows.len(), false, short, no_estimate(estimate));
     if stop != 0 {
         return stop;
