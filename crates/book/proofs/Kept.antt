@@ -20,7 +20,7 @@ use Rattle.book.specs.declared.Decrease.the-variants.{Unmarked, Marked}
 use Rattle.book.specs.declared.Found.the-variants.{At}
 use Rattle.book.specs.declared.Resting.{Resting}
 use Rattle.book.specs.Line.{Entry, rests, left, cut, sameLevel, volume, hasLevel, levels, crossed, wouldCross}
-use Rattle.book.specs.Rows.{emptyRow, Lent, ceiling, rowAt, rowsFrom, rowsOf, idOf, sideOf, entryOf, lineOf, findRow, removeAt, reduced, cutRows, snapshotKind, snapshotRow}
+use Rattle.book.specs.Rows.{emptyRow, Lent, mostRows, rowAt, rowsFrom, rowsOf, idOf, sideOf, entryOf, lineOf, findRow, removeAt, reduced, cutRows, snapshotKind, snapshotRow}
 use Rattle.message.specs.Values.{amountLimit}
 use Rattle.book.specs.Broken.{outOfRange, flagBroken, rowBroken, someRowBroken, idTwice, rowsBroken, wordsBroken, WellFormed, OpenFits, someOutOfRange, SnapshotFits}
 use Rattle.book.proofs.Rows.{rows-split, length-rows, length-remove, remove-eq, getD-rows}
@@ -262,13 +262,13 @@ not-broken mo ml os w =
     or-both _ _ (w .sound) (or-both _ _ (w .single) (or-both _ _ (le-ltb ml (levels (lineOf os)) (w .flat)) (w .apart)))
 
 -- what a caller has once the test on lent words is passed
-pub words-formed : (ml : ℕ) (ws : List ℕ) (n : ℕ) → wordsBroken ml ws n ≡ false → Lent ws n × WellFormed ceiling ml (rowsOf ws n)
+pub words-formed : (ml : ℕ) (ws : List ℕ) (n : ℕ) → wordsBroken ml ws n ≡ false → Lent ws n × WellFormed mostRows ml (rowsOf ws n)
 words-formed ml ws n h =
-    let a = or-no (ltb ceiling n) (ltb (length ws) (8 * n) || rowsBroken ml (rowsOf ws n)) h in
+    let a = or-no (ltb mostRows n) (ltb (length ws) (8 * n) || rowsBroken ml (rowsOf ws n)) h in
     let b = or-no (ltb (length ws) (8 * n)) (rowsBroken ml (rowsOf ws n)) (a .1) in
-    let few : n ≤ ceiling = ltb-false ceiling n (a .0) in (
+    let few : n ≤ mostRows = ltb-false mostRows n (a .0) in (
       record { room = ltb-false (length ws) (8 * n) (b .0); few = few },
-      broken-not ceiling ml (rowsOf ws n) (omega (arith, few, length-rows ws 0 n)) (b .1),
+      broken-not mostRows ml (rowsOf ws n) (omega (arith, few, length-rows ws 0 n)) (b .1),
     )
 
 -- ---- an accepted snapshot
@@ -332,7 +332,7 @@ volume-most s p (o ∷ os) h =
     go false ih q = omega arith
 
 -- 01, Values in the domain: "A level sum never exceeds 4.096 × 10^18": it fits a word, even a signed one
-pub level-bound : (mo ml : ℕ) (os : List Resting) (s : L3Side) (p : ℕ) → mo ≤ ceiling → WellFormed mo ml os
+pub level-bound : (mo ml : ℕ) (os : List Resting) (s : L3Side) (p : ℕ) → mo ≤ mostRows → WellFormed mo ml os
     → (volume s p (lineOf os) ≤ 4096000000000000000) × (volume s p (lineOf os) < 2 ^ 63)
 level-bound mo ml os s p h w =
     let v = volume-most s p os (w .sound) in

@@ -1,4 +1,5 @@
 pub mod Kept
+pub mod Memory
 pub mod Moves
 pub mod Rows
 pub mod Stored

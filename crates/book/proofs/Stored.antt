@@ -95,47 +95,6 @@ stored-remove ws vs n i h q lines rest =
     (let z : 8 * (n - length (removeAt (rowsOf ws n) i)) ≡ 8 = omega arith in rw z)
     rest
 
--- ---- rows zeroed from row m on
-
-encode-empty : (k : ℕ) → encodeAll (replicate k emptyRow) ≡ replicate (8 * k) 0
-encode-empty zero = refl
-encode-empty (suc k) =
-    let e : 8 * suc k ≡ suc (suc (suc (suc (suc (suc (suc (suc (8 * k)))))))) = omega arith in
-    rw e (ap (λ (x : List ℕ). wordsOf emptyRow ++ x) (encode-empty k))
-
--- rows m to k of `ws` have been zeroed
-pub record Clearing (ws vs : List ℕ) (m k : ℕ) : Type 0 where
-  pub size : length vs ≡ length ws
-  pub lines : rowsOf vs k ≡ rowsOf ws m ++ replicate (k - m) emptyRow
-  pub rest : drop (8 * k) vs ≡ drop (8 * k) ws
-
-pub clear-start : (ws : List ℕ) (m : ℕ) → Clearing ws ws m m
-clear-start ws m = record { size = refl; lines = rw sub-self (sym (append-nil (rowsOf ws m))); rest = refl }
-
-pub clear-next : (ws vs : List ℕ) (m k : ℕ) → m ≤ k → 8 * k + 8 ≤ length vs → Clearing ws vs m k → Clearing ws (setRow vs k emptyRow) m (k + 1)
-clear-next ws vs m k h fits c =
-    let e : k + 1 - m ≡ k - m + 1 = omega arith in
-    let past : 8 * k + 8 ≡ 8 * (k + 1) = omega arith in
-    record {
-      size = length-setRow vs k emptyRow fits ∙ c .size;
-      lines =
-          rows-push vs k emptyRow fits
-          ∙ rw (c .lines, append-assoc, e) (ap (λ (x : List Resting). rowsOf ws m ++ x) (replicate-append-replicate (k - m) 1 emptyRow));
-      rest =
-          rest-set vs (k + 1) k emptyRow (omega arith) (omega arith)
-          ∙ ap (λ (x : ℕ). drop x vs) (sym past)
-          ∙ sym (drop-drop 8 (8 * k) vs)
-          ∙ ap (drop 8) (c .rest)
-          ∙ drop-drop 8 (8 * k) ws
-          ∙ ap (λ (x : ℕ). drop x ws) past;
-    }
-
-pub clear-done : (ws vs : List ℕ) (m n : ℕ) → m ≤ n → 8 * n ≤ length ws → Clearing ws vs m n → vs ≡ stored ws n (rowsOf ws m)
-clear-done ws vs m n h fits c =
-    let l = length-rows ws 0 m in
-    let z : n - length (rowsOf ws m) ≡ n - m = omega arith in
-    stored-is ws vs n n (rowsOf ws m) (replicate (n - m) emptyRow) (omega arith) (omega (arith, c .size)) (c .lines) (rw z (encode-empty (n - m))) (c .rest)
-
 -- ---- laws of `stored`
 
 rows-at : (p : List ℕ) (i : ℕ) (os : List Resting) (rest : List ℕ) → length p ≡ 8 * i → rowsFrom (p ++ (encodeAll os ++ rest)) i (length os) ≡ os

@@ -9,7 +9,7 @@ use lib.ListN.{length}
 use Rattle.message.specs.Values.{amountLimit}
 use Rattle.book.specs.declared.Resting.{Resting}
 use Rattle.book.specs.Line.{Entry, rests, hasLevel, levels, crossed, wouldCross}
-use Rattle.book.specs.Rows.{ceiling, rowsOf, idOf, sideOf, lineOf}
+use Rattle.book.specs.Rows.{rowWords, mostRows, rowsOf, idOf, sideOf, lineOf}
 
 -- "0 or above 10^15"
 abbrev pub outOfRange : ℕ → Bool
@@ -37,10 +37,10 @@ abbrev pub rowsBroken : ℕ → List Resting → Bool
 rowsBroken maxLevels os =
     someRowBroken os || (idTwice (lineOf os) || (ltb maxLevels (levels (lineOf os)) || crossed (lineOf os)))
 
--- the same of n rows in lent words. More rows than the ceiling, or than the words hold, are no book either: a caller has said 2, and
+-- the same of n rows in lent words. More rows than the mostRows, or than the words hold, are no book either: a caller has said 2, and
 -- "rows above max_orders", before
 abbrev pub wordsBroken : ℕ → List ℕ → ℕ → Bool
-wordsBroken maxLevels ws n = ltb ceiling n || (ltb (length ws) (8 * n) || rowsBroken maxLevels (rowsOf ws n))
+wordsBroken maxLevels ws n = ltb mostRows n || (ltb (length ws) (rowWords * n) || rowsBroken maxLevels (rowsOf ws n))
 
 -- ---- what callers carry
 

@@ -1,3 +1,4 @@
 pub mod Line
 pub mod Rows
 pub mod Broken
+pub mod Memory

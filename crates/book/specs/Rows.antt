@@ -17,9 +17,13 @@ use Rattle.book.specs.declared.Decrease.the-variants.{Unmarked, Marked}
 use Rattle.book.specs.declared.Resting.{Resting}
 use Rattle.book.specs.Line.{Entry}
 
--- 01, number 1: "an order or level limit above 4,096"
-abbrev pub ceiling : ℕ
-ceiling = 4096
+-- "eight a row"
+abbrev pub rowWords : ℕ
+rowWords = 8
+
+-- the most rows that the code works with: no call's ceiling is above it, and a sum of so many amounts fits a word
+abbrev pub mostRows : ℕ
+mostRows = 4096
 
 -- ---- words to rows
 
@@ -27,14 +31,14 @@ ceiling = 4096
 abbrev pub rowAt : List ℕ → ℕ → Resting
 rowAt ws i =
     record {
-      high = getD ws (8 * i) 0;
-      low = getD ws (8 * i + 1) 0;
-      price = getD ws (8 * i + 2) 0;
-      remaining = getD ws (8 * i + 3) 0;
-      kind = getD ws (8 * i + 4) 0;
-      «entered_at» = getD ws (8 * i + 5) 0;
-      decreased = getD ws (8 * i + 6) 0;
-      «decreased_at» = getD ws (8 * i + 7) 0;
+      high = getD ws (rowWords * i) 0;
+      low = getD ws (rowWords * i + 1) 0;
+      price = getD ws (rowWords * i + 2) 0;
+      remaining = getD ws (rowWords * i + 3) 0;
+      kind = getD ws (rowWords * i + 4) 0;
+      «entered_at» = getD ws (rowWords * i + 5) 0;
+      decreased = getD ws (rowWords * i + 6) 0;
+      «decreased_at» = getD ws (rowWords * i + 7) 0;
     }
 
 -- k rows from row i on
@@ -46,10 +50,10 @@ rowsFrom ws i (suc k) = rowAt ws i ∷ rowsFrom ws (i + 1) k
 abbrev pub rowsOf : List ℕ → ℕ → List Resting
 rowsOf ws n = rowsFrom ws 0 n
 
--- the words hold n rows, and n is within the ceiling
+-- the words hold n rows, and n is within the mostRows
 pub record Lent (ws : List ℕ) (n : ℕ) : Type 0 where
-  pub room : 8 * n ≤ length ws
-  pub few : n ≤ ceiling
+  pub room : rowWords * n ≤ length ws
+  pub few : n ≤ mostRows
 
 -- ---- rows to words
 
@@ -68,12 +72,12 @@ emptyRow =
 
 -- row i replaced
 unfoldable pub setRow : List ℕ → ℕ → Resting → List ℕ
-setRow ws i o = take (8 * i) ws ++ wordsOf o ++ drop (8 * i + 8) ws
+setRow ws i o = take (rowWords * i) ws ++ wordsOf o ++ drop (rowWords * i + rowWords) ws
 
 -- the words once n rows have given way to the orders `os`. 01, Rows and pieces: "A removal moves later rows down and zeroes the freed one;
 -- an accepted snapshot writes bids then asks from the first row and zeroes former rows beyond them; other words past the last row are untouched"
 unfoldable pub stored : List ℕ → ℕ → List Resting → List ℕ
-stored ws n os = encodeAll os ++ (replicate (8 * (n - length os)) 0 ++ drop (8 * max n (length os)) ws)
+stored ws n os = encodeAll os ++ (replicate (rowWords * (n - length os)) 0 ++ drop (rowWords * max n (length os)) ws)
 
 -- ---- what a row says
 

@@ -9,7 +9,13 @@ ghost use lib.ListN.{length, set};
 ghost use Rattle.message.specs.declared.L3Side.the-variants.{Buy, Sell};
 ghost use Rattle.message.specs.Same.{sameId, sameSide};
 ghost use Rattle.book.specs.Line.{hasLevel, sameLevel, better, best, meet, wouldCross};
-ghost use Rattle.book.specs.Rows.{Lent, ceiling, emptyRow, idOf, rowAt, setRow, rowsOf, lineOf, sideOf, findRow, stored, removeAt, reduced};
+ghost use Rattle.book.specs.Rows.{Lent, rowWords, mostRows, emptyRow, idOf, rowAt, setRow, rowsOf, lineOf, sideOf, findRow, stored, removeAt, reduced};
+
+// Words of a row.
+pub const ROW_WORDS: usize = 8;
+
+// The most rows that the functions here are lent: a sum of so many amounts fits a word.
+pub const MOST_ROWS: usize = 4096;
 
 // The answer of a search.
 pub enum Found {
@@ -46,10 +52,10 @@ pub struct Resting {
 
 // Row `i`.
 pub fn get_row(rows: &[u64], i: usize) -> Resting
-    requires { ⌜ (8 * i + 8 ≤ length (now rows)) × (i ≤ ceiling) ⌝ }
+    requires { ⌜ (rowWords * i + rowWords ≤ length (now rows)) × (i ≤ mostRows) ⌝ }
     ensures { λ r. ⌜ r ≡ rowAt (now (rows .entry)) i ⌝ }
 {
-    let at = 8 * i;
+    let at = ROW_WORDS * i;
     Resting {
         high: rows[at],
         low: rows[at + 1],
@@ -64,10 +70,10 @@ pub fn get_row(rows: &[u64], i: usize) -> Resting
 
 // Writes row `i`.
 pub fn set_row(rows: &mut [u64], i: usize, order: Resting)
-    requires { ⌜ (8 * i + 8 ≤ length (now rows)) × (i ≤ ceiling) ⌝ }
+    requires { ⌜ (rowWords * i + rowWords ≤ length (now rows)) × (i ≤ mostRows) ⌝ }
     ensures { λ _. ⌜ now (rows .exit) ≡ setRow (now (rows .entry)) i order ⌝ }
 {
-    let at = 8 * i;
+    let at = ROW_WORDS * i;
     rows[at] = order.high;
     rows[at + 1] = order.low;
     rows[at + 2] = order.price;
@@ -80,7 +86,7 @@ pub fn set_row(rows: &mut [u64], i: usize, order: Resting)
 
 // Adds an order after `n` rows: it joins the back of its level. The caller has checked that its id is new and that there is room.
 pub fn insert(rows: &mut [u64], n: usize, order: Resting)
-    requires { ⌜ (8 * n + 8 ≤ length (now rows)) × (n < ceiling) ⌝ }
+    requires { ⌜ (rowWords * n + rowWords ≤ length (now rows)) × (n < mostRows) ⌝ }
     ensures { λ _. ⌜ now (rows .exit) ≡ stored (now (rows .entry)) n (rowsOf (now (rows .entry)) n ++ (order ∷ [])) ⌝ }
 {
     set_row(rows, n, order)
@@ -140,18 +146,6 @@ pub fn remove(rows: &mut [u64], n: usize, i: usize)
         k += 1;
     }
     set_row(rows, k, empty_row())
-}
-
-// Zeroes the rows from `m` on, of `n`: a snapshot of fewer orders than there were leaves these.
-pub fn clear_rows(rows: &mut [u64], m: usize, n: usize)
-    requires { ⌜ Lent (now rows) n × (m ≤ n) ⌝ }
-    ensures { λ _. ⌜ now (rows .exit) ≡ stored (now (rows .entry)) n (rowsOf (now (rows .entry)) m) ⌝ }
-{
-    let mut j = m;
-    while j < n {
-        set_row(rows, j, empty_row());
-        j += 1;
-    }
 }
 
 // The side of a kind.

@@ -10,7 +10,7 @@ ghost use mathlib.Core.Bool.{true};
 ghost use Prim.Native.Nat.{_≤_, _<_};
 ghost use lib.ListN.{length};
 ghost use Rattle.book.specs.Line.{wouldCross};
-ghost use Rattle.book.specs.Rows.{Lent, ceiling, rowsOf, lineOf, findRow};
+ghost use Rattle.book.specs.Rows.{Lent, mostRows, rowsOf, lineOf, findRow};
 ghost use Rattle.book_keys.specs.Keys.{bucketOf};
 ghost use Rattle.book_index.specs.Index.{keyFor, bounded, rowMarked, rowBounded, all, Indexed, Foreseen, markedAt, noted, noBounds, widened, clearOf, Near};
 
@@ -141,7 +141,7 @@ pub fn would_cross(
 
 // The order of that id rests at row `place`, or is about to.
 fn mark(places: &mut [u16], place: usize, id: OrderId)
-    requires { ⌜ (length (now places) ≤ 65536) × (place ≤ ceiling) ⌝ }
+    requires { ⌜ (length (now places) ≤ 65536) × (place ≤ mostRows) ⌝ }
     ensures { λ _. ⌜ now (places .exit) ≡ markedAt (now (places .entry)) place id ⌝ }
 {
     let m = places.len();
@@ -220,7 +220,7 @@ pub fn foresee(rows: &[u64], n: usize, bounds: Bounds, event: L3Event) -> Bounds
 
 // Marks the order that an event may have added behind `n` rows. One that was refused is in the index then too, and costs a search at most.
 pub fn note(places: &mut [u16], n: usize, event: L3Event)
-    requires { ⌜ (length (now places) ≤ 65536) × (n ≤ ceiling) ⌝ }
+    requires { ⌜ (length (now places) ≤ 65536) × (n ≤ mostRows) ⌝ }
     ensures { λ _. ⌜ now (places .exit) ≡ noted (now (places .entry)) n event ⌝ }
 {
     match event {

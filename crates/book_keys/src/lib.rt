@@ -7,7 +7,7 @@ ghost use lib.ListN.{length};
 ghost use mathlib.Core.Bool.{not};
 ghost use Rattle.message.specs.Same.{sameSide};
 ghost use Rattle.book.specs.Line.{levels, sideLevels};
-ghost use Rattle.book.specs.Rows.{Lent, ceiling, rowsOf, sideOf, lineOf};
+ghost use Rattle.book.specs.Rows.{Lent, mostRows, rowsOf, sideOf, lineOf};
 ghost use Rattle.book.specs.Broken.{idTwice};
 ghost use Rattle.book_keys.specs.Keys.{keyOf, sameKey, spreadOf, bucketOf, hasKey, countKeys, Chained, Headed, restOf, Empty, someOther};
 
@@ -117,7 +117,7 @@ fn chain_has(
 
 // How many distinct keys the rows have. `heads` is all 0. Rows are taken from the last to the first, so that a link leads to later rows.
 fn count_in(rows: &[u64], n: usize, kind: KeyKind, heads: &mut [u16], next: &mut [u16]) -> usize
-    requires { ⌜ Lent (now rows) n × ((n ≤ length (now next)) × ((0 < length (now heads)) × (length (now heads) ≤ ceiling))) ⌝ }
+    requires { ⌜ Lent (now rows) n × ((n ≤ length (now next)) × ((0 < length (now heads)) × (length (now heads) ≤ mostRows))) ⌝ }
     requires { ⌜ Empty (now heads) ⌝ }
     ensures { λ r. ⌜ r ≡ countKeys (keyOf kind) (rowsOf (now (rows .entry)) n) ⌝ }
 {

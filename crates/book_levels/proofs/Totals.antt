@@ -10,7 +10,7 @@ use lib.ListN.{length}
 use Rattle.message.specs.declared.L3Side.{L3Side}
 use Rattle.book.specs.declared.Resting.{Resting}
 use Rattle.book.specs.Line.{sameLevel, volume, ordersAt}
-use Rattle.book.specs.Rows.{ceiling, rowsFrom, rowsOf, sideOf, lineOf}
+use Rattle.book.specs.Rows.{mostRows, rowsFrom, rowsOf, sideOf, lineOf}
 use Rattle.message.specs.Values.{amountLimit}
 use Rattle.book.specs.Broken.{someRowBroken}
 use Rattle.book.proofs.Rows.{length-rows}
@@ -61,11 +61,11 @@ orders-most s p (o ∷ os) = go (sameLevel (sideOf (o .kind)) (o .price) s p) (o
 
 -- the sums of the rows from row i on
 pub record Small (v : Level) : Type 0 where
-  pub total : v .total ≤ ceiling * amountLimit
-  pub unknown : v .unknown ≤ ceiling * amountLimit
-  pub orders : v .orders ≤ ceiling
+  pub total : v .total ≤ mostRows * amountLimit
+  pub unknown : v .unknown ≤ mostRows * amountLimit
+  pub orders : v .orders ≤ mostRows
 
-pub small-from : (ws : List ℕ) (n i : ℕ) (s : L3Side) (p : ℕ) → n ≤ ceiling → i ≤ n → someRowBroken (rowsOf ws n) ≡ false
+pub small-from : (ws : List ℕ) (n i : ℕ) (s : L3Side) (p : ℕ) → n ≤ mostRows → i ≤ n → someRowBroken (rowsOf ws n) ≡ false
     → Small (levelAt s p (rowsFrom ws i (n - i)))
 small-from ws n i s p few h q =
     let os = rowsFrom ws i (n - i) in

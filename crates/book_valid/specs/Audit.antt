@@ -6,7 +6,7 @@ use lib.Dec.{eqb, ltb}
 use lib.ListN.{length}
 use Rattle.book.specs.declared.Resting.{Resting}
 use Rattle.book.specs.Line.{crossed}
-use Rattle.book.specs.Rows.{ceiling, rowsOf, lineOf}
+use Rattle.book.specs.Rows.{rowWords, mostRows, rowsOf, lineOf}
 use Rattle.book.specs.Broken.{idTwice}
 use Rattle.book_valid.specs.declared.AuditAnswer.{AuditAnswer}
 use Rattle.book_valid.specs.declared.AuditAnswer.the-variants.{Ok, NotLent, SizeNotPositive, IdTwice, Crossed}
@@ -23,4 +23,4 @@ auditRows os =
 
 -- n rows in lent words
 abbrev pub auditOf : List ℕ → ℕ → AuditAnswer
-auditOf ws n = cond (ltb ceiling n) NotLent (cond (ltb (length ws) (8 * n)) NotLent (auditRows (rowsOf ws n)))
+auditOf ws n = cond (ltb mostRows n) NotLent (cond (ltb (length ws) (rowWords * n)) NotLent (auditRows (rowsOf ws n)))

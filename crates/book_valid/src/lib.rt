@@ -78,10 +78,10 @@ fn screened(rows: &[u64], n: usize) -> bool
 pub fn rows_broken(rows: &[u64], n: usize, max_levels: usize) -> bool
     ensures { λ r. ⌜ r ≡ wordsBroken «max_levels» (now (rows .entry)) n ⌝ }
 {
-    if 4096 < n {
+    if book::MOST_ROWS < n {
         return true;
     }
-    if rows.len() < 8 * n {
+    if rows.len() < book::ROW_WORDS * n {
         return true;
     }
     if screened(rows, n) {
@@ -117,10 +117,10 @@ fn some_empty(rows: &[u64], n: usize) -> bool
 pub fn audit(rows: &[u64], n: usize) -> AuditAnswer
     ensures { λ r. ⌜ r ≡ auditOf (now (rows .entry)) n ⌝ }
 {
-    if 4096 < n {
+    if book::MOST_ROWS < n {
         return AuditAnswer::NotLent;
     }
-    if rows.len() < 8 * n {
+    if rows.len() < book::ROW_WORDS * n {
         return AuditAnswer::NotLent;
     }
     if some_empty(rows, n) {

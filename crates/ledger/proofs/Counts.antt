@@ -20,7 +20,9 @@ use Rattle.reconstructor_answers.specs.declared.ApplyAnswer.{ApplyAnswer}
 use Rattle.reconstructor_answers.specs.declared.ApplyAnswer.the-variants as answers
 use Rattle.reconstructor_answers.specs.declared.InvalidationKind.{InvalidationKind}
 use Rattle.reconstructor_counts.specs.declared.MessageCounts.{MessageCounts}
-use Rattle.reconstructor_counts.specs.Counts.{largest, saturated, raisedAt, countedAt}
+use Rattle.reconstructor_counts.specs.declared.Counter.{Counter}
+use Rattle.reconstructor_counts.specs.declared.Counter.the-variants as counters
+use Rattle.reconstructor_counts.specs.Counts.{largest, saturated, raisedAt, placeOf, counted}
 use Rattle.reconstructor_segments.specs.declared.Segment.{Segment}
 use Rattle.reconstructor_state.specs.declared.BookReconstructor.{BookReconstructor}
 use Rattle.reconstructor_state.specs.State.{View, Lengths, lengthsOf, lastOf, segmentOf}
@@ -69,23 +71,37 @@ saturated-up x = go (ltb x largest) refl
         let l = ltb-false x largest p in
         rw (up-high x l, up-high (x + 1) (omega (arith, l)))
 
-raised-up : (k i x : ℕ) → raisedAt k i (upTo x) ≡ upTo (x + hit i (some k))
-raised-up k i x = go (eqb k i)
+raised-up : (k i : Counter) (x : ℕ) → raisedAt (placeOf k) (placeOf i) (upTo x) ≡ upTo (x + hit i (some k))
+raised-up k i x = go (eqb (placeOf k) (placeOf i))
   where
     go : (b : Bool) → cond b (saturated (upTo x)) (upTo x) ≡ upTo (x + cond b 1 0)
     go true = saturated-up x
     go false = let z : x ≡ x + 0 = omega arith in ap upTo z
 
-counts-same : (f g : ℕ → ℕ) → ((i : ℕ) → f i ≡ g i) → countsBy f ≡ countsBy g
-counts-same f g h = rw (h 0, h 1, h 2, h 3, h 4, h 5, h 6, h 7, h 8, h 9, h 10, h 11)
+counts-same : (f g : Counter → ℕ) → ((i : Counter) → f i ≡ g i) → countsBy f ≡ countsBy g
+counts-same f g h =
+    rw (
+      h counters.Received,
+      h counters.Open,
+      h counters.Done,
+      h counters.Matched,
+      h counters.Stp,
+      h counters.OffBookDone,
+      h counters.OffBookChange,
+      h counters.NoopChange,
+      h counters.HandshakeDropped,
+      h counters.SkippedWhileInvalid,
+      h counters.WrongProduct,
+      h counters.RejectedSnapshots,
+    )
 
-abbrev countedBy : Option ℕ → MessageCounts → MessageCounts
+abbrev countedBy : Option Counter → MessageCounts → MessageCounts
 countedBy none k = k
-countedBy (some p) k = countedAt p k
+countedBy (some p) k = counted k p
 
-counted-up : (a : ℕ → ℕ) (o : Option ℕ) (k : MessageCounts) → k ≡ countsBy (λ (i : ℕ). upTo (a i)) → countedBy o k ≡ countsBy (λ (i : ℕ). upTo (a i + hit i o))
+counted-up : (a : Counter → ℕ) (o : Option Counter) (k : MessageCounts) → k ≡ countsBy (λ (i : Counter). upTo (a i)) → countedBy o k ≡ countsBy (λ (i : Counter). upTo (a i + hit i o))
 counted-up a none k e = e ∙ counts-same _ _ (λ i. let z : a i ≡ a i + 0 = omega arith in ap upTo z)
-counted-up a (some p) k e = ap (countedAt p) e ∙ counts-same (λ (i : ℕ). raisedAt p i (upTo (a i))) (λ (i : ℕ). upTo (a i + hit i (some p))) (λ i. raised-up p i (a i))
+counted-up a (some p) k e = ap (λ (z : MessageCounts). counted z p) e ∙ counts-same (λ (i : Counter). raisedAt (placeOf p) (placeOf i) (upTo (a i))) (λ (i : Counter). upTo (a i + hit i (some p))) (λ i. raised-up p i (a i))
 
 -- ---- a call by value, lent enough
 
@@ -127,7 +143,7 @@ module _ (b : BookReconstructor) (ws : List ℕ) (sg : List Segment) (s : ℕ) (
   apply-counted m = rw (gate-same m) (gated-counted b ws sg m (bookGate ceiling b ws sg m))
 
   module _ (h : Handshake) (m : L3Message) where
-    abbrev place : Option ℕ
+    abbrev place : Option Counter
     place = placeIn (configOf b) (seen s b ws) (step (lengthsOf ws sg) h m)
 
     other-place : otherSegment h (segmentOf b) (b .segments) ≡ true → place ≡ none
@@ -139,7 +155,7 @@ module _ (b : BookReconstructor) (ws : List ℕ) (sg : List Segment) (s : ℕ) (
     range-place p q = rw (first-on _ _ _ _ (own-none b ws sg u) (goes-on _ _ _ _ p (fails _ _ _ q)))
 
     through-place : otherSegment h (segmentOf b) (b .segments) ≡ false → not (eventInRange (m .event)) ≡ false
-        → place ≡ cond (drops (b .«product_id») s m) (some 8) (applyPlace (configOf b) (seen s b ws) (lengthsOf ws sg) m)
+        → place ≡ cond (drops (b .«product_id») s m) (some counters.HandshakeDropped) (applyPlace (configOf b) (seen s b ws) (lengthsOf ws sg) m)
     unfolding placeIn stepRefusal
     through-place p q = rw (first-on _ _ _ _ (own-none b ws sg u) (goes-on _ _ _ _ p (goes-on _ _ _ _ q refl)))
 
@@ -249,35 +265,35 @@ module _ (c : Config) (r s : ℕ) (w : World) (v : View) (f : Follows c r s w v)
 
 module _ (c : Config) (r s : ℕ) where
   -- what was counted, this call, and those after it
-  more : (a : ℕ → ℕ) (w : World) (v : View) (k : Call) (ks : List Call) → run (perform w k) ks .book .counts ≡ countsBy (λ (i : ℕ). upTo ((a i + hit i (placeIn c v k)) + timesIn c (feedView c v k) ks i))
-      → run w (k ∷ ks) .book .counts ≡ countsBy (λ (i : ℕ). upTo (a i + timesIn c v (k ∷ ks) i))
+  more : (a : Counter → ℕ) (w : World) (v : View) (k : Call) (ks : List Call) → run (perform w k) ks .book .counts ≡ countsBy (λ (i : Counter). upTo ((a i + hit i (placeIn c v k)) + timesIn c (feedView c v k) ks i))
+      → run w (k ∷ ks) .book .counts ≡ countsBy (λ (i : Counter). upTo (a i + timesIn c v (k ∷ ks) i))
   more a w v k ks e =
       e ∙ counts-same _ _ (λ i. let z : (a i + hit i (placeIn c v k)) + timesIn c (feedView c v k) ks i ≡ a i + (hit i (placeIn c v k) + timesIn c (feedView c v k) ks i) = omega arith in ap upTo z)
 
-  past-read : (a : ℕ → ℕ) (w : World) (v : View) (q : Asked) (ks : List Call) → run w ks .book .counts ≡ countsBy (λ (i : ℕ). upTo (a i + timesIn c v ks i))
-      → run w (read q ∷ ks) .book .counts ≡ countsBy (λ (i : ℕ). upTo (a i + timesIn c v (read q ∷ ks) i))
+  past-read : (a : Counter → ℕ) (w : World) (v : View) (q : Asked) (ks : List Call) → run w ks .book .counts ≡ countsBy (λ (i : Counter). upTo (a i + timesIn c v ks i))
+      → run w (read q ∷ ks) .book .counts ≡ countsBy (λ (i : Counter). upTo (a i + timesIn c v (read q ∷ ks) i))
   unfolding perform feedView placeIn
   past-read a w v q ks e = e ∙ counts-same _ _ (λ i. let z : a i + timesIn c v ks i ≡ a i + (0 + timesIn c v ks i) = omega arith in ap upTo z)
 
-  run-counts : (a : ℕ → ℕ) (w : World) (v : View) (ks : List Call) → Follows c r s w v → Lendable r s ks → w .book .counts ≡ countsBy (λ (i : ℕ). upTo (a i))
-      → run w ks .book .counts ≡ countsBy (λ (i : ℕ). upTo (a i + timesIn c v ks i))
+  run-counts : (a : Counter → ℕ) (w : World) (v : View) (ks : List Call) → Follows c r s w v → Lendable r s ks → w .book .counts ≡ countsBy (λ (i : Counter). upTo (a i))
+      → run w ks .book .counts ≡ countsBy (λ (i : Counter). upTo (a i + timesIn c v ks i))
   run-counts a w v [] f l e = e ∙ counts-same _ _ (λ i. let z : a i ≡ a i + 0 = omega arith in ap upTo z)
   run-counts a w v (bootstrap n bytes ∷ ks) f l e =
       more a w v (bootstrap n bytes) ks
-      (run-counts (λ (i : ℕ). a i + hit i (placeIn c v (bootstrap n bytes))) (perform w (bootstrap n bytes)) (feedView c v (bootstrap n bytes)) ks (boot-follows c r s w v f n (l .0) bytes) (l .1)
+      (run-counts (λ (i : Counter). a i + hit i (placeIn c v (bootstrap n bytes))) (perform w (bootstrap n bytes)) (feedView c v (bootstrap n bytes)) ks (boot-follows c r s w v f n (l .0) bytes) (l .1)
       (boot-counts c r s w v f n (l .0) bytes ∙ counted-up a (placeIn c v (bootstrap n bytes)) (w .book .counts) e))
   run-counts a w v (apply n m ∷ ks) f l e =
       more a w v (apply n m) ks
-      (run-counts (λ (i : ℕ). a i + hit i (placeIn c v (apply n m))) (perform w (apply n m)) (feedView c v (apply n m)) ks (apply-follows c r s w v f n (l .0) m) (l .1)
+      (run-counts (λ (i : Counter). a i + hit i (placeIn c v (apply n m))) (perform w (apply n m)) (feedView c v (apply n m)) ks (apply-follows c r s w v f n (l .0) m) (l .1)
       (apply-counts c r s w v f n (l .0) m ∙ counted-up a (placeIn c v (apply n m)) (w .book .counts) e))
   run-counts a w v (step n h m ∷ ks) f l e =
       more a w v (step n h m) ks
-      (run-counts (λ (i : ℕ). a i + hit i (placeIn c v (step n h m))) (perform w (step n h m)) (feedView c v (step n h m)) ks (step-follows c r s w v f n (l .0) h m) (l .1)
+      (run-counts (λ (i : Counter). a i + hit i (placeIn c v (step n h m))) (perform w (step n h m)) (feedView c v (step n h m)) ks (step-follows c r s w v f n (l .0) h m) (l .1)
       (step-counts c r s w v f n (l .0) h m ∙ counted-up a (placeIn c v (step n h m)) (w .book .counts) e))
   run-counts a w v (read q ∷ ks) f l e = past-read a w v q ks (run-counts a w v ks f l e)
 
 pub counts-are : (c : Config) (ws : List ℕ) (sg : List Segment) (ks : List Call) → Lendable (length ws) (length sg) ks
-    → run (freshWorld c ws sg) ks .book .counts ≡ countsBy (λ (i : ℕ). upTo (timesIn c blank ks i))
+    → run (freshWorld c ws sg) ks .book .counts ≡ countsBy (λ (i : Counter). upTo (timesIn c blank ks i))
 counts-are c ws sg ks l =
     run-counts c (length ws) (length sg) (λ i. 0) (freshWorld c ws sg) blank ks (fresh-follows c ws sg) l refl
     ∙ counts-same _ _ (λ i. let z : 0 + timesIn c blank ks i ≡ timesIn c blank ks i = omega arith in ap upTo z)

@@ -18,14 +18,14 @@ use Rattle.piece.specs.declared.ReadSnapshot.{ReadSnapshot}
 use Rattle.piece.specs.declared.ReadSnapshot.the-variants as pieces
 use Rattle.piece.specs.Piece.{readSnapshot}
 use Rattle.book.specs.Line.{Entry, find, sameLevel}
-use Rattle.book.specs.Rows.{ceiling}
+use Rattle.book.specs.Memory.{Extent, snapshot, lineBy}
 use Rattle.reconstructor_answers.specs.declared.InvalidationKind.{InvalidationKind}
 use Rattle.reconstructor_answers.specs.declared.ApplyAnswer.{ApplyAnswer}
 use Rattle.reconstructor_segments.specs.declared.SegmentName.{SegmentName}
 use Rattle.reconstructor_state.specs.declared.Status.the-variants as statuses
 use Rattle.reconstructor_state.specs.declared.VenueRules.{VenueRules}
-use Rattle.reconstructor_state.specs.State.{View, Lengths, lastOf}
-use Rattle.reconstructor_plan.specs.Rules.{sizeGiven, effect, lineBy}
+use Rattle.reconstructor_state.specs.State.{ceiling, View, Lengths, lastOf}
+use Rattle.reconstructor_plan.specs.Rules.{sizeGiven, effect}
 use Rattle.reconstructor.specs.Refusals.{gateRefusal, turnRefusal}
 use Rattle.reconstructor.specs.Applied.{invalidation}
 use Rattle.reconstructor_bootstrap.specs.declared.SnapshotAnswer.{SnapshotAnswer}
@@ -43,18 +43,18 @@ pub record Config : Type 0 where
   pub rules : VenueRules
   pub number : ℕ
 
--- the reads: words of rows that each is lent, of scratch where it takes some, what is asked, and words of output
+-- the reads: how much of the memory each is lent, words of scratch where it takes some, what is asked, and words of output
 pub data Read : Type 0 where
-  lastSequence : ℕ → Read
-  best : ℕ → Read
-  audit : ℕ → Read
-  levelQueue : ℕ → ℕ → L3Side → ℤ → ℕ → Read
-  priorityProfile : ℕ → ℕ → L3Side → ℕ → Read
-  l2 : ℕ → ℕ → L3Side → ℕ → Read
-  staleL2 : ℕ → ℕ → L3Side → ℕ → Read
-  queueEstimate : ℕ → L3Side → ℤ → ℕ → Read
-  queueEstimateOwn : ℕ → OrderId → Read
-  volumeAhead : ℕ → QueueEstimate → ℕ → Read
+  lastSequence : Extent → Read
+  best : Extent → Read
+  audit : Extent → Read
+  levelQueue : Extent → ℕ → L3Side → ℤ → ℕ → Read
+  priorityProfile : Extent → ℕ → L3Side → ℕ → Read
+  l2 : Extent → ℕ → L3Side → ℕ → Read
+  staleL2 : Extent → ℕ → L3Side → ℕ → Read
+  queueEstimate : Extent → L3Side → ℤ → ℕ → Read
+  queueEstimateOwn : Extent → OrderId → Read
+  volumeAhead : Extent → QueueEstimate → ℕ → Read
 
 -- "then each call's arguments (a handshake value too) .. of lent memory only the lengths": every public call of 01
 pub data Call : Type 0 where
@@ -129,13 +129,13 @@ lessOf (some e) x f = less (e .side) (e .price) (x e) f
 
 -- "an open adds its size to its figure, a match takes its size off, a `canceled` done of an order in the line takes off what remains, a change of one what
 -- remains less the new size"
-unfoldable pub tally : List Entry → L3Event → Figure → Figure
-tally l (Received d s) f = f
-tally l (Open d s p q) f = plus s (natOf p) (natOf q) f
-tally l (Done d s p why r) f = lessOf (find d l) (λ (e : Entry). e .remaining) f
-tally l (Match m t s p q) f = less s (natOf p) (natOf q) f
-tally l (Change d s why p oldSize newSize oldPrice newPrice funds) f = lessOf (find d l) (λ (e : Entry). e .remaining - sizeGiven newSize) f
-tally l (Unsupported k) f = f
+unfoldable pub tally : VenueRules → List Entry → L3Event → Figure → Figure
+tally v l (Received d s) f = f
+tally v l (Open d s p q) f = plus s (natOf p) (natOf q) f
+tally v l (Done d s p why r) f = lessOf (find d l) (λ (e : Entry). e .remaining) f
+tally v l (Match m t s p q) f = less s (natOf p) (natOf q) f
+tally v l (Change d s why p oldSize newSize oldPrice newPrice funds) f = lessOf (find d l) (λ (e : Entry). e .remaining - sizeGiven newSize) f
+tally v l (Unsupported k) f = f
 
 -- "its sizes, summed, the figures"
 abbrev pub tallied : List Entry → Figure → Figure
@@ -145,29 +145,29 @@ tallied (e ∷ l) f = tallied l (plus (e .side) (e .price) (e .remaining) f)
 -- ---- one call
 
 -- "the line follows the rules. 20 to 44 make it invalid, no more. Any other refusal, read or drop: nothing"
-abbrev pub viewBy : L3Message → Outcome → View → View
-viewBy m refused w = w
-viewBy m (invalidates k) w =
+abbrev pub viewBy : VenueRules → L3Message → Outcome → View → View
+viewBy v m refused w = w
+viewBy v m (invalidates k) w =
     record {
       status = statuses.Invalidated (invalidation (lastOf (w .status)) (m .sequence) k);
       startSeq = w .startSeq;
       segments = w .segments;
       line = w .line;
     }
-viewBy m dropped w = w
-viewBy m accepted w =
+viewBy v m dropped w = w
+viewBy v m accepted w =
     record {
       status = statuses.Valid (m .sequence);
       startSeq = w .startSeq;
       segments = w .segments;
-      line = lineBy (effect (w .line) (m .event)) (w .line);
+      line = lineBy (effect v (w .line) (m .sequence) (m .event)) (w .line);
     }
 
-abbrev pub figureBy : L3Message → Outcome → View → Figure → Figure
-figureBy m refused w f = f
-figureBy m (invalidates k) w f = f
-figureBy m dropped w f = f
-figureBy m accepted w f = tally (w .line) (m .event) f
+abbrev pub figureBy : VenueRules → L3Message → Outcome → View → Figure → Figure
+figureBy v m refused w f = f
+figureBy v m (invalidates k) w f = f
+figureBy v m dropped w f = f
+figureBy v m accepted w f = tally v (w .line) (m .event) f
 
 -- "Once accepted, a snapshot's bids, then asks, are the line"
 abbrev pub snapView : L3Snapshot → List ℕ → View → View
@@ -176,7 +176,7 @@ snapView s bytes w =
       status = statuses.Valid (s .sequence);
       startSeq = s .sequence;
       segments = w .segments + 1;
-      line = snapshotLine s bytes;
+      line = lineBy (snapshot (s .sequence) (snapshotLine s bytes)) (w .line);
     }
 
 abbrev pub viewBoot : Option SnapshotAnswer → ReadSnapshot → List ℕ → View → View
@@ -195,14 +195,14 @@ module _ (c : Config) where
 
   unfoldable pub feedView : View → Call → View
   feedView w (bootstrap n bytes) = viewBoot (bootOutcome n w bytes) (readSnapshot bytes) bytes w
-  feedView w (apply n m) = viewBy m (applyOutcome c n false w m) w
-  feedView w (step n h m) = viewBy m (stepOutcome c n false w h m) w
+  feedView w (apply n m) = viewBy (c .rules) m (applyOutcome c n false w m) w
+  feedView w (step n h m) = viewBy (c .rules) m (stepOutcome c n false w h m) w
   feedView w (read q) = w
 
   unfoldable pub feedFigure : View → Call → Figure → Figure
   feedFigure w (bootstrap n bytes) f = figureBoot (bootOutcome n w bytes) (readSnapshot bytes) bytes f
-  feedFigure w (apply n m) f = figureBy m (applyOutcome c n false w m) w f
-  feedFigure w (step n h m) f = figureBy m (stepOutcome c n false w h m) w f
+  feedFigure w (apply n m) f = figureBy (c .rules) m (applyOutcome c n false w m) w f
+  feedFigure w (step n h m) f = figureBy (c .rules) m (stepOutcome c n false w h m) w f
   feedFigure w (read q) f = f
 
   abbrev pub feed : Ledger → Call → Ledger

@@ -17,6 +17,7 @@ use Rattle.book.specs.Line.{volume, queue}
 use Rattle.book.specs.Rows.{ceiling}
 use Rattle.book_levels.specs.Levels.{prices}
 use Rattle.reconstructor_answers.specs.declared.StateError.the-variants.{MalformedBook}
+use Rattle.reconstructor_counts.specs.declared.Counter.{Counter}
 use Rattle.reconstructor_segments.specs.declared.Segment.{Segment}
 use Rattle.reconstructor_state.specs.declared.BookReconstructor.{BookReconstructor}
 use Rattle.reconstructor_segments.specs.Segments.{lastSegment}
@@ -170,7 +171,7 @@ pub record SumRule (c : Config) (ws : List ℕ) (sg : List Segment) (ks : List C
   -- the rest of what the ledger holds
   pub stands : Stand (run (freshWorld c ws sg) ks) (feedAll c fresh ks)
   -- each of the twelve counts is the number of calls so far that 01 counts there, up to 2^64−1
-  pub counts : run (freshWorld c ws sg) ks .book .counts ≡ countsBy (λ (i : ℕ). upTo (timesIn c blank ks i))
+  pub counts : run (freshWorld c ws sg) ks .book .counts ≡ countsBy (λ (i : Counter). upTo (timesIn c blank ks i))
   -- 01, Values in the domain: "A level sum never exceeds 4.096 × 10^18"
   pub bound : (s : L3Side) (p : ℕ) → feedAll c fresh ks .figure s p ≤ 4096000000000000000
   -- and none on the way in a snapshot that reads and has no more than 4,096 orders, accepted or refused later: those of its first n orders

@@ -6,44 +6,44 @@ use lib.ListN.{take, drop}
 use Rattle.message.specs.declared.L3Side.{L3Side}
 use Rattle.message.specs.declared.OrderId.{OrderId}
 use Rattle.book.specs.Line.{Entry, volume, queue}
-use Rattle.book.specs.Rows.{ceiling, rowsOf, lineOf}
+use Rattle.book.specs.Memory.{Memory, Extent, front, behind, Within, lineIn}
 use Rattle.reconstructor_segments.specs.declared.Segment.{Segment}
 use Rattle.reconstructor_state.specs.declared.BookReconstructor.{BookReconstructor}
-use Rattle.reconstructor_state.specs.State.{Lengths, newBook}
+use Rattle.reconstructor_state.specs.State.{ceiling, Lengths, newBook}
 use Rattle.reconstructor.specs.Applied.{applied}
 use Rattle.reconstructor_bootstrap.specs.Bootstrap.{bootstrapped}
 use Rattle.reconstructor_handshake.specs.Step.{stepped}
 use Rattle.ledger.specs.Ledger.{Config, Call, bootstrap, apply, step, read}
 
--- the state, the words of rows and the segment records
+-- the state, the memory and the segment records
 pub record World : Type 0 where
   pub book : BookReconstructor
-  pub rows : List ℕ
+  pub memory : Memory
   pub segments : List Segment
 
--- a call is lent a prefix
-abbrev pub lentRows : Lengths → World → List ℕ
-lentRows n w = take (n .rows) (w .rows)
+-- a call is lent the front of each
+abbrev pub lentMemory : Lengths → World → Memory
+lentMemory n w = front (n .memory) (w .memory)
 
 abbrev pub lentSegments : Lengths → World → List Segment
 lentSegments n w = take (n .segments) (w .segments)
 
 -- the next one sees what the last left
-abbrev pub back : Lengths → World → BookReconstructor → List ℕ → List Segment → World
-back n w b ws sg = record { book = b; rows = ws ++ drop (n .rows) (w .rows); segments = sg ++ drop (n .segments) (w .segments) }
+abbrev pub back : Lengths → World → BookReconstructor → Memory → List Segment → World
+back n w b mem sg = record { book = b; memory = behind (n .memory) (w .memory) mem; segments = sg ++ drop (n .segments) (w .segments) }
 
 unfoldable pub perform : World → Call → World
 perform w (bootstrap n bytes) =
-    back n w (bootstrapped ceiling (w .book) (lentRows n w) (lentSegments n w) bytes .book)
-    (bootstrapped ceiling (w .book) (lentRows n w) (lentSegments n w) bytes .rows)
-    (bootstrapped ceiling (w .book) (lentRows n w) (lentSegments n w) bytes .segments)
+    back n w (bootstrapped ceiling (w .book) (lentMemory n w) (lentSegments n w) bytes .book)
+    (bootstrapped ceiling (w .book) (lentMemory n w) (lentSegments n w) bytes .memory)
+    (bootstrapped ceiling (w .book) (lentMemory n w) (lentSegments n w) bytes .segments)
 perform w (apply n m) =
-    back n w (applied ceiling (w .book) (lentRows n w) (lentSegments n w) m .book) (applied ceiling (w .book) (lentRows n w) (lentSegments n w) m .rows)
-    (applied ceiling (w .book) (lentRows n w) (lentSegments n w) m .segments)
+    back n w (applied ceiling (w .book) (lentMemory n w) (lentSegments n w) m .book) (applied ceiling (w .book) (lentMemory n w) (lentSegments n w) m .memory)
+    (applied ceiling (w .book) (lentMemory n w) (lentSegments n w) m .segments)
 perform w (step n h m) =
-    back n w (stepped ceiling h (w .book) (lentRows n w) (lentSegments n w) m .book) (stepped ceiling h (w .book) (lentRows n w) (lentSegments n w) m .rows)
-    (stepped ceiling h (w .book) (lentRows n w) (lentSegments n w) m .segments)
--- a read is lent the rows and its own memory, and changes none of these
+    back n w (stepped ceiling h (w .book) (lentMemory n w) (lentSegments n w) m .book) (stepped ceiling h (w .book) (lentMemory n w) (lentSegments n w) m .memory)
+    (stepped ceiling h (w .book) (lentMemory n w) (lentSegments n w) m .segments)
+-- a read is lent the memory and what it writes to, and changes none of these
 perform w (read q) = w
 
 abbrev pub run : World → List Call → World
@@ -51,23 +51,23 @@ run w [] = w
 run w (k ∷ ks) = run (perform w k) ks
 
 -- any words and records in its memory
-abbrev pub freshWorld : Config → List ℕ → List Segment → World
-freshWorld c ws sg = record { book = newBook (c .product) (c .rules) (c .number); rows = ws; segments = sg }
+abbrev pub freshWorld : Config → Memory → List Segment → World
+freshWorld c mem sg = record { book = newBook (c .product) (c .rules) (c .number); memory = mem; segments = sg }
 
--- a call is lent no more words of rows, and no more records, than there are
-abbrev pub Fits : ℕ → ℕ → Lengths → Type 0
-Fits r s n = (n .rows ≤ r) × (n .segments ≤ s)
+-- a call is lent no more of the memory, and no more records, than there are
+abbrev pub Fits : Extent → ℕ → Lengths → Type 0
+Fits most s n = Within (n .memory) most × (n .segments ≤ s)
 
-abbrev pub Lendable : ℕ → ℕ → List Call → Type 0
-Lendable r s [] = Unit {0}
-Lendable r s (bootstrap n bytes ∷ ks) = Fits r s n × Lendable r s ks
-Lendable r s (apply n m ∷ ks) = Fits r s n × Lendable r s ks
-Lendable r s (step n h m ∷ ks) = Fits r s n × Lendable r s ks
-Lendable r s (read q ∷ ks) = Lendable r s ks
+abbrev pub Lendable : Extent → ℕ → List Call → Type 0
+Lendable most s [] = Unit {0}
+Lendable most s (bootstrap n bytes ∷ ks) = Fits most s n × Lendable most s ks
+Lendable most s (apply n m ∷ ks) = Fits most s n × Lendable most s ks
+Lendable most s (step n h m ∷ ks) = Fits most s n × Lendable most s ks
+Lendable most s (read q ∷ ks) = Lendable most s ks
 
 -- "At each side and price, volume is the sum of the remaining of the rows there, queue order their ids and remaining in order of arrival"
 abbrev pub lineAt : World → List Entry
-lineAt w = lineOf (rowsOf (w .rows) (w .book .rows))
+lineAt w = lineIn (w .memory) (w .book .rows)
 
 abbrev pub volumeAt : L3Side → ℕ → World → ℕ
 volumeAt s p w = volume s p (lineAt w)

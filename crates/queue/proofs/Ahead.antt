@@ -17,14 +17,15 @@ use Rattle.book.specs.declared.Found.{Found}
 use Rattle.book.specs.declared.Found.the-variants.{At, Nothing}
 use Rattle.book.specs.declared.Resting.{Resting}
 use Rattle.book.specs.Line.{sameLevel}
-use Rattle.book.specs.Rows.{ceiling, rowAt, rowsFrom, rowsOf, sideOf, idOf, findRow}
+use Rattle.book.specs.Rows.{mostRows, rowAt, rowsFrom, rowsOf, sideOf, idOf, findRow}
 use Rattle.book.specs.Broken.{rowBroken, someRowBroken}
 use Rattle.book.proofs.Rows.{rows-step}
 use Rattle.book.proofs.Kept.{sound-row, sound-from}
 use Rattle.book_queue.specs.Queue.{rowsAt}
 use Rattle.book_queue.proofs.Orders.{at-most}
 use Rattle.queue.specs.Ahead.{rowWith, enteredAt, AheadEntry, entryAt, entriesFrom, joined, stillAhead, before, sizes, snapshotSizes, observedSizes, tallyOf}
-use Rattle.queue.specs.Steps.{noTally, tallyWith, tallyJoined, Small}
+use Rattle.queue.specs.Tallies.{noTally, tallyWith, tallyJoined, Small}
+use Rattle.queue.specs.Estimates.{listBound}
 
 -- ---- a search of the rows
 
@@ -158,7 +159,7 @@ sizes-split (o ∷ os) = go (ltb (o .kind) 2) (sizes-split os)
     go false ih = omega (arith, ih)
 
 -- 01, Values in the domain: every sum fits a word
-pub tally-small : (t : ℕ) (os : List Resting) → someRowBroken os ≡ false → length os ≤ ceiling → Small (tallyOf t os)
+pub tally-small : (t : ℕ) (os : List Resting) → someRowBroken os ≡ false → length os ≤ mostRows → Small (tallyOf t os)
 tally-small t os h k =
     let a = sizes-most os h in
     let b = sizes-split os in
@@ -185,7 +186,7 @@ pub joined-tally : (t : ℕ) (r : Option Resting) (os : List Resting) → tallyO
 joined-tally t none os = refl
 joined-tally t (some o) os = refl
 
-pub still-small : (t : ℕ) (os : List Resting) (ws : List ℕ) (i k : ℕ) → someRowBroken os ≡ false → k ≤ ceiling
+pub still-small : (t : ℕ) (os : List Resting) (ws : List ℕ) (i k : ℕ) → someRowBroken os ≡ false → k ≤ listBound
     → Small (tallyOf t (stillAhead os (entriesFrom ws i k)))
 still-small t os ws i k h q =
     tally-small t (stillAhead os (entriesFrom ws i k)) (still-sound os (entriesFrom ws i k) h)
@@ -204,7 +205,7 @@ before-tally t s p d o os = go (sameLevel (sideOf (o .kind)) (o .price) s p) (sa
     go true false e = rw e
     go false b e = refl
 
-pub before-small : (t : ℕ) (s : L3Side) (p : ℕ) (d : OrderId) (os : List Resting) → someRowBroken os ≡ false → length os ≤ ceiling
+pub before-small : (t : ℕ) (s : L3Side) (p : ℕ) (d : OrderId) (os : List Resting) → someRowBroken os ≡ false → length os ≤ mostRows
     → Small (tallyOf t (before d (rowsAt s p os)))
 before-small t s p d os h q =
     tally-small t (before d (rowsAt s p os)) (before-sound d (rowsAt s p os) (at-sound s p os h))

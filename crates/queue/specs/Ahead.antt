@@ -10,6 +10,8 @@ use Rattle.message.specs.declared.OrderId.{OrderId}
 use Rattle.message.specs.Same.{sameId}
 use Rattle.book.specs.declared.Resting.{Resting}
 use Rattle.book.specs.Rows.{idOf}
+use Rattle.book_queue.specs.declared.EntryForm.the-variants.{Ahead}
+use Rattle.book_queue.specs.Queue.{entryWidth}
 use Rattle.queue.specs.declared.Tally.{Tally}
 
 -- ---- which orders count
@@ -24,13 +26,21 @@ abbrev pub enteredAt : ℕ → Option Resting → Option Resting
 enteredAt t none = none
 enteredAt t (some o) = cond (eqb (o .«entered_at») t) (some o) none
 
+-- "three words an order (id, entered_at)"
+abbrev pub aheadEntryWords : ℕ
+aheadEntryWords = entryWidth Ahead
+
 -- entry i of an ahead-list
 pub record AheadEntry : Type 0 where
   pub id : OrderId
   pub entered : ℕ
 
 abbrev pub entryAt : List ℕ → ℕ → AheadEntry
-entryAt ws i = record { id = record { high = getD ws (3 * i) 0; low = getD ws (3 * i + 1) 0 }; entered = getD ws (3 * i + 2) 0 }
+entryAt ws i =
+    record {
+      id = record { high = getD ws (aheadEntryWords * i) 0; low = getD ws (aheadEntryWords * i + 1) 0 };
+      entered = getD ws (aheadEntryWords * i + 2) 0;
+    }
 
 -- k entries from entry i on
 unfoldable pub entriesFrom : List ℕ → ℕ → ℕ → List AheadEntry

@@ -1,7 +1,7 @@
 -- Queue estimates, and the volume ahead, for every input. 01, Reads: "1, 2, 3, then 15 or 18, then 8, 50 and the Rust's checks in its own order, 7 last".
-use Prim.Native.Nat.{ℕ, _*_, _-_}
+use Prim.Native.Nat.{ℕ, _*_}
 use mathlib.Core.Bool.{Bool, true, false, not, _||_, _&&_, cond}
-use mathlib.Core.List.{List, [], _∷_}
+use mathlib.Core.List.{List}
 use mathlib.Core.Option.{Option, none, some}
 use lib.Dec.{eqb, ltb}
 use lib.IntN.{ℤ, pos}
@@ -10,7 +10,8 @@ use Rattle.message.specs.declared.L3Side.{L3Side}
 use Rattle.message.specs.declared.OrderId.{OrderId}
 use Rattle.message.specs.Amounts.{natOf}
 use Rattle.book.specs.declared.Resting.{Resting}
-use Rattle.book.specs.Rows.{ceiling, rowsOf, sideOf}
+use Rattle.book.specs.Rows.{sideOf}
+use Rattle.book.specs.Memory.{Memory, ordersOf}
 use Rattle.book_levels.specs.Levels.{written}
 use Rattle.book_queue.specs.declared.EntryForm.the-variants.{Ahead}
 use Rattle.book_queue.specs.Queue.{rowsAt, entriesWords}
@@ -21,7 +22,7 @@ use Rattle.reconstructor_state.specs.Checks.{check, first}
 use Rattle.reconstructor_segments.specs.Segments.{sameSegment}
 use Rattle.reconstructor_state.specs.State.{lastOf, segmentOf}
 use Rattle.reconstructor_view.specs.declared.ViewError.{ViewError}
-use Rattle.reconstructor_view.specs.View.{bookView}
+use Rattle.reconstructor_view.specs.ValueReads.{viewRefusalOf}
 use Rattle.queue.specs.declared.Assumption.{Assumption}
 use Rattle.queue.specs.declared.Assumption.the-variants as hypotheses
 use Rattle.queue.specs.declared.Anchor.{Anchor}
@@ -35,7 +36,7 @@ use Rattle.queue.specs.declared.EstimateAnswer.the-variants as estimates
 use Rattle.queue.specs.declared.AheadAnswer.{AheadAnswer}
 use Rattle.queue.specs.declared.AheadAnswer.the-variants as answers
 use Rattle.queue.specs.declared.Tally.{Tally}
-use Rattle.queue.specs.Ahead.{rowWith, enteredAt, entriesFrom, stillAhead, before, tallyOf}
+use Rattle.queue.specs.Ahead.{rowWith, enteredAt, aheadEntryWords, entriesFrom, stillAhead, before, tallyOf}
 
 -- ---- parts
 
@@ -79,10 +80,10 @@ estimated (some e) p l = estimateLeaves (estimates.Refused (errors.View e)) l
 estimated none p l = p
 
 -- a price that is not above zero is worked as 0, which no row has
-abbrev pub queueEstimate : ℕ → BookReconstructor → List ℕ → L3Side → ℤ → List ℕ → EstimateParts
-queueEstimate top b ws s z l =
-    estimated (bookView top b ws false)
-    (listed (hypothetical b s z (rowsOf ws (b .rows))) (entriesWords Ahead (rowsAt s (natOf z) (rowsOf ws (b .rows)))) l)
+abbrev pub queueEstimate : ℕ → BookReconstructor → Memory → L3Side → ℤ → List ℕ → EstimateParts
+queueEstimate top b mem s z l =
+    estimated (viewRefusalOf top b mem false)
+    (listed (hypothetical b s z (ordersOf mem (b .rows))) (entriesWords Ahead (rowsAt s (natOf z) (ordersOf mem (b .rows)))) l)
     l
 
 -- ---- queue_estimate_own
@@ -101,20 +102,24 @@ unfoldable pub ownViewed : Option ViewError → EstimateAnswer → EstimateAnswe
 ownViewed (some e) a = estimates.Refused (errors.View e)
 ownViewed none a = a
 
-abbrev pub queueEstimateOwn : ℕ → BookReconstructor → List ℕ → OrderId → EstimateAnswer
-queueEstimateOwn top b ws d = ownViewed (bookView top b ws false) (ownEstimated b d (rowWith d (rowsOf ws (b .rows))))
+abbrev pub queueEstimateOwn : ℕ → BookReconstructor → Memory → OrderId → EstimateAnswer
+queueEstimateOwn top b mem d = ownViewed (viewRefusalOf top b mem false) (ownEstimated b d (rowWith d (ordersOf mem (b .rows))))
 
 -- ---- volume_ahead
 
--- 8: "of an estimate that isn't of an own order: ahead-list above 4,096 orders, or under 3 words an order", the ceiling being an argument
-abbrev pub listShort : ℕ → Anchor → ℕ → Bool
-listShort top (Hypothetical k t) len = ltb top k || ltb len (3 * k)
-listShort top (Own d t) len = false
+-- 8: "of an estimate that isn't of an own order: ahead-list above 4,096 orders, or under 3 words an order". The bound is the list's own, whatever a call's
+-- ceiling is
+abbrev pub listBound : ℕ
+listBound = 4096
 
-unfoldable pub aheadRefusal : ℕ → BookReconstructor → List ℕ → QueueEstimate → List ℕ → Option QueueError
-aheadRefusal top b ws q l =
-    first (bookView top b ws false) errors.View
-    (check (listShort top (q .anchor) (length l)) errors.AheadListShort
+abbrev pub listShort : Anchor → ℕ → Bool
+listShort (Hypothetical k t) len = ltb listBound k || ltb len (aheadEntryWords * k)
+listShort (Own d t) len = false
+
+unfoldable pub aheadRefusal : ℕ → BookReconstructor → Memory → QueueEstimate → List ℕ → Option QueueError
+aheadRefusal top b mem q l =
+    first (viewRefusalOf top b mem false) errors.View
+    (check (listShort (q .anchor) (length l)) errors.AheadListShort
     (check (not (sameSegment (q .segment) (segmentOf b))) errors.StaleEstimate none))
 
 -- "the first by the estimate's kind, then SizeDecreaseKeepsPriority at most once": the second is told by a flag
@@ -155,10 +160,11 @@ ownTallied rule at (some o) t =
 abbrev pub ownAhead : SizeDecrease → ℕ → L3Side → ℕ → OrderId → ℕ → List Resting → AheadAnswer
 ownAhead rule at s p d t os = ownTallied rule at (enteredAt t (rowWith d os)) (tallyOf t (before d (rowsAt s p os)))
 
-abbrev pub anchorAhead : BookReconstructor → QueueEstimate → Anchor → List ℕ → List Resting → AheadAnswer
-anchorAhead b q (Hypothetical k t) l os = listAhead (b .rules .«size_decrease») (lastOf (b .status)) k t l os
-anchorAhead b q (Own d t) l os = ownAhead (b .rules .«size_decrease») (lastOf (b .status)) (q .side) (natOf (q .price)) d t os
+abbrev pub anchorAhead : SizeDecrease → ℕ → QueueEstimate → Anchor → List ℕ → List Resting → AheadAnswer
+anchorAhead rule at q (Hypothetical k t) l os = listAhead rule at k t l os
+anchorAhead rule at q (Own d t) l os = ownAhead rule at (q .side) (natOf (q .price)) d t os
 
-abbrev pub volumeAhead : ℕ → BookReconstructor → List ℕ → QueueEstimate → List ℕ → AheadAnswer
-volumeAhead top b ws q l =
-    aheadOf (aheadRefusal top b ws q l) (anchorAhead b q (q .anchor) l (rowsOf ws (b .rows)))
+abbrev pub volumeAhead : ℕ → BookReconstructor → Memory → QueueEstimate → List ℕ → AheadAnswer
+volumeAhead top b mem q l =
+    aheadOf (aheadRefusal top b mem q l)
+    (anchorAhead (b .rules .«size_decrease») (lastOf (b .status)) q (q .anchor) l (ordersOf mem (b .rows)))

@@ -1,4 +1,4 @@
 pub mod Ahead
-pub mod Steps
+pub mod Tallies
 pub mod Estimates
 pub mod Numbers

@@ -2,5 +2,3 @@ pub mod Laws
 pub mod Kept
 pub mod ByValue
 pub mod ApplyShell
-pub mod Lent
-pub mod AcceptShell

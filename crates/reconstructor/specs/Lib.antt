@@ -1,4 +1,3 @@
 pub mod Refusals
 pub mod Applied
-pub mod ByValue
 pub mod Steps

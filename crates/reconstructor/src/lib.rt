@@ -13,18 +13,20 @@ use reconstructor_plan::Planned;
 use reconstructor_segments::Segment;
 use reconstructor_state::BookReconstructor;
 use reconstructor_state::Status;
+use reconstructor_state::VenueRules;
 ghost use mathlib.Core.Path.{_≡_};
-ghost use Rattle.book.specs.Rows.{ceiling, rowsOf, lineOf};
+ghost use Prim.Native.Nat.{_≤_};
+ghost use Rattle.book.specs.Rows.{mostRows, rowsOf};
+ghost use Rattle.book.specs.Memory.{memory, lineIn};
 ghost use Rattle.book_index.specs.Index.{Indexed};
 ghost use Rattle.reconstructor_answers.specs.Numbers.{answerTold};
-ghost use Rattle.reconstructor_state.specs.State.{lastOf};
+ghost use Rattle.reconstructor_state.specs.State.{ceiling, lastOf};
 ghost use Rattle.reconstructor_checks.specs.Own.{Trusted};
 ghost use Rattle.reconstructor_plan.specs.Rules.{eventDeed};
-ghost use Rattle.reconstructor_plan.specs.Plans.{Ready, PlanFits, deedOf};
+ghost use Rattle.reconstructor_plan.specs.Plans.{Ready, PlanFits, planOutcome};
 ghost use Rattle.reconstructor.specs.Refusals.{admitRefusal, turnRefusal};
-ghost use Rattle.reconstructor.specs.Applied.{refusedReply, invalidatedReply, advancedReply, acceptedReply, accepted, core, turned, nextSegment, leaves, applied};
-ghost use Rattle.reconstructor.specs.ByValue.{worked, trustedTo, appliedTo, replyOf};
-ghost use Rattle.reconstructor.specs.Steps.{AdmitsFor, TurnsFor};
+ghost use Rattle.reconstructor.specs.Applied.{refusedReply, invalidatedReply, acceptedReply, core, worked, atTurn, nextSegment, appliedTo, leaves, applied};
+ghost use Rattle.reconstructor.specs.Steps.{AdmitsFor, TurnsFor, committed, trustedTo, replyOf};
 
 // What a call leaves of the state, with its answer.
 pub struct Reply {
@@ -81,19 +83,18 @@ pub enum Turn {
 fn refused(book: BookReconstructor, answer: ApplyAnswer) -> Reply
     ensures { λ r. ⌜ r ≡ refusedReply book answer ⌝ }
 {
-    let counts = book.counts;
     match answer {
         ApplyAnswer::Applied(_) => Reply { book, answer },
         ApplyAnswer::Unusable(_) => Reply { book, answer },
         ApplyAnswer::AmountOutOfRange => Reply { book, answer },
         ApplyAnswer::WrongProduct => Reply {
-            book: book.with_counts(counts.wrong_product()),
+            book: book.counting(Counter::WrongProduct),
             answer,
         },
         ApplyAnswer::NotBootstrapped => Reply { book, answer },
         ApplyAnswer::Invalidated(_) => Reply { book, answer },
         ApplyAnswer::AwaitingSnapshot(_) => Reply {
-            book: book.with_counts(counts.skipped_while_invalid()),
+            book: book.counting(Counter::SkippedWhileInvalid),
             answer,
         },
     }
@@ -114,21 +115,9 @@ fn invalidated(book: BookReconstructor, last: u64, seq: u64, kind: InvalidationK
     }
 }
 
-// What an accepted message leaves, once it is counted: its sequence, and so many rows in use.
-fn advanced(book: BookReconstructor, seq: u64, rows: usize, applied: Applied) -> Reply
-    ensures { λ r. ⌜ r ≡ advancedReply book seq rows applied ⌝ }
-{
-    let mut next = book.with_status(Status::Valid { last_seq: seq });
-    next.rows = rows;
-    Reply {
-        book: next,
-        answer: ApplyAnswer::Applied(applied),
-    }
-}
-
-// The message is accepted: one of the state's counts, lent, is raised in place.
+// The message is accepted: its sequence, so many rows in use, and one of the state's counts raised in place.
 fn accepted(
-    mut book: BookReconstructor,
+    book: BookReconstructor,
     seq: u64,
     rows: usize,
     counter: Counter,
@@ -136,8 +125,13 @@ fn accepted(
 ) -> Reply
     ensures { λ r. ⌜ r ≡ acceptedReply book seq rows counter applied ⌝ }
 {
-    reconstructor_counts::count(&mut book.counts, counter);
-    advanced(book, seq, rows, applied)
+    let counted = book.counting(counter);
+    let mut next = counted.with_status(Status::Valid { last_seq: seq });
+    next.rows = rows;
+    Reply {
+        book: next,
+        answer: ApplyAnswer::Applied(applied),
+    }
 }
 
 // What comes before the sequence in a state that passed 1, 2 and 3: 5, 10, 15, 17.
@@ -174,10 +168,10 @@ fn take_turn(
 ) -> Turn
     requires { ⌜ Ready (now rows) (book .rows) (book .rules .«max_orders») ⌝ }
     requires { ⌜ Indexed (now places) bounds (rowsOf (now rows) (book .rows)) ⌝ }
-    ensures { λ r. ⌜ TurnsFor (turnRefusal (book .rules) (lineOf (rowsOf (now (rows .entry)) (book .rows))) «last_seq» message) (eventDeed (rowsOf (now (rows .entry)) (book .rows)) (message .sequence) (message .event)) (now (rows .entry)) (book .rows) r ⌝ }
+    ensures { λ r. ⌜ TurnsFor (turnRefusal (book .rules) (lineIn (memory (now (rows .entry))) (book .rows)) «last_seq» message) (eventDeed (book .rules) (lineIn (memory (now (rows .entry))) (book .rows)) (message .sequence) (message .event)) (now (rows .entry)) (book .rows) r ⌝ }
 {
     let seq = message.sequence;
-    if last_seq == 18446744073709551615 {
+    if last_seq == u64::MAX {
         return Turn::Broken(InvalidationKind::SequenceOverflow);
     }
     if seq <= last_seq {
@@ -202,7 +196,7 @@ fn take_turn(
 fn commit(book: BookReconstructor, rows: &mut [u64], plan: Plan, seq: u64) -> Reply
     requires { ⌜ Ready (now rows) (book .rows) (book .rules .«max_orders») ⌝ }
     requires { ⌜ PlanFits (now rows) (book .rows) plan ⌝ }
-    ensures { λ r. ⌜ core r (now (rows .exit)) ≡ accepted book (now (rows .entry)) seq (deedOf (now (rows .entry)) (book .rows) plan) ⌝ }
+    ensures { λ r. ⌜ core r (memory (now (rows .exit))) ≡ committed book (now (rows .entry)) seq (planOutcome (now (rows .entry)) (book .rows) plan) ⌝ }
 {
     let n = book.rows;
     match plan {
@@ -238,7 +232,7 @@ fn apply_valid(
 ) -> Reply
     requires { ⌜ Ready (now rows) (book .rows) (book .rules .«max_orders») ⌝ }
     requires { ⌜ Indexed (now places) bounds (rowsOf (now rows) (book .rows)) ⌝ }
-    ensures { λ r. ⌜ core r (now (rows .exit)) ≡ turned book (now (rows .entry)) «last_seq» message ⌝ }
+    ensures { λ r. ⌜ core r (memory (now (rows .exit))) ≡ atTurn book (memory (now (rows .entry))) «last_seq» message ⌝ }
 {
     let seq = message.sequence;
     match take_turn(book, rows, places, bounds, last_seq, message) {
@@ -274,7 +268,7 @@ pub fn apply_indexed(
 ) -> Work
     requires { ⌜ Ready (now rows) (book .rows) (book .rules .«max_orders») ⌝ }
     requires { ⌜ Indexed (now places) bounds (rowsOf (now rows) (book .rows)) ⌝ }
-    ensures { λ r. ⌜ worked r (now (rows .exit)) ≡ trustedTo book (now (rows .entry)) last message ⌝ }
+    ensures { λ r. ⌜ worked r (memory (now (rows .exit))) ≡ trustedTo book (memory (now (rows .entry))) last message ⌝ }
 {
     match admit(book, message) {
         Admitted::Stop(answer) => work_of(refused(book, answer), last),
@@ -294,14 +288,32 @@ pub fn apply_trusted(
     last: Segment,
     message: L3Message,
 ) -> Work
-    requires { ⌜ Trusted ceiling book (now rows) ⌝ }
-    ensures { λ r. ⌜ worked r (now (rows .exit)) ≡ trustedTo book (now (rows .entry)) last message ⌝ }
+    requires { ⌜ Trusted mostRows book (memory (now rows)) ⌝ }
+    ensures { λ r. ⌜ worked r (memory (now (rows .exit))) ≡ trustedTo book (memory (now (rows .entry))) last message ⌝ }
 {
     let places = [0u16; 0];
     apply_indexed(book, rows, last, &places, Bounds::none(), message)
 }
 
-// `apply` with the last segment's record by value, of a list of `lent` records.
+// `apply` under a ceiling, with the last segment's record by value, of a list of `lent` records.
+pub fn apply_under(
+    top: usize,
+    book: BookReconstructor,
+    rows: &mut [u64],
+    lent: usize,
+    last: Segment,
+    message: L3Message,
+) -> Work
+    requires { ⌜ top ≤ mostRows ⌝ }
+    ensures { λ r. ⌜ worked r (memory (now (rows .exit))) ≡ appliedTo top book (memory (now (rows .entry))) lent last message ⌝ }
+{
+    match reconstructor_checks::own_checks(top, book, rows, lent) {
+        Checked::Refused(why) => work_of(refused(book, ApplyAnswer::Unusable(why)), last),
+        Checked::Passed => apply_trusted(book, rows, last, message),
+    }
+}
+
+// Under our ceiling.
 pub fn apply_by_value(
     book: BookReconstructor,
     rows: &mut [u64],
@@ -309,12 +321,9 @@ pub fn apply_by_value(
     last: Segment,
     message: L3Message,
 ) -> Work
-    ensures { λ r. ⌜ worked r (now (rows .exit)) ≡ appliedTo ceiling book (now (rows .entry)) lent last message ⌝ }
+    ensures { λ r. ⌜ worked r (memory (now (rows .exit))) ≡ appliedTo ceiling book (memory (now (rows .entry))) lent last message ⌝ }
 {
-    match reconstructor_checks::own_checks(book, rows, lent) {
-        Checked::Refused(why) => work_of(refused(book, ApplyAnswer::Unusable(why)), last),
-        Checked::Passed => apply_trusted(book, rows, last, message),
-    }
+    apply_under(VenueRules::CEILING, book, rows, lent, last, message)
 }
 
 // Applies the next message to a book. Nothing but the counts that 01 names changes unless every check passes; a refusal rewrites the last segment's record with
@@ -325,7 +334,7 @@ pub fn apply(
     segments: &mut [Segment],
     message: L3Message,
 ) -> Reply
-    ensures { λ r. ⌜ (leaves r (now (rows .exit)) (now (segments .exit)) ≡ applied ceiling book (now (rows .entry)) (now (segments .entry)) message) × (answerTold (r .answer) ≡ answerTold (applied ceiling book (now (rows .entry)) (now (segments .entry)) message .answer)) ⌝ }
+    ensures { λ r. ⌜ (leaves r (memory (now (rows .exit))) (now (segments .exit)) ≡ applied ceiling book (memory (now (rows .entry))) (now (segments .entry)) message) × (answerTold (r .answer) ≡ answerTold (applied ceiling book (memory (now (rows .entry))) (now (segments .entry)) message .answer)) ⌝ }
 {
     let count = book.segment_count();
     let last = reconstructor_segments::last_segment(segments, count);

@@ -8,7 +8,8 @@ use mathlib.Core.Option.{Option, none, some}
 use native.Mathlib.Omega.{arith}
 use borrow.Author.Tests.{eqb-false, ne-eqb, le-ltb}
 use lib.Dec.{eqb, lit<}
-use lib.ListN.{length, length-map, length-set}
+use lib.ListN.{length, set, length-map, length-set}
+use lib.Seq.{set-out}
 use Rattle.message.specs.declared.L3Snapshot.{L3Snapshot}
 use Rattle.piece.specs.declared.PieceError.{PieceError}
 use Rattle.piece.specs.declared.ReadSnapshot.{ReadSnapshot}
@@ -19,6 +20,7 @@ use Rattle.piece.specs.Piece.{bidsAt, asksAt, snapshotShaped, productIdAt, word
 use Rattle.book.specs.declared.Resting.{Resting}
 use Rattle.book.specs.Line.{Entry}
 use Rattle.book.specs.Rows.{rowsOf, stored, snapshotRow}
+use Rattle.book.specs.Memory.{Memory, memory, ordersOf}
 use Rattle.book.specs.Broken.{WellFormed, someOutOfRange, SnapshotFits}
 use Rattle.reconstructor_state.specs.declared.Status.{Status}
 use Rattle.reconstructor_state.specs.declared.Status.the-variants.{Empty, Valid, Invalidated}
@@ -27,9 +29,9 @@ use Rattle.reconstructor_answers.specs.declared.StateError.the-variants.{LimitA
 use Rattle.reconstructor_state.specs.Checks.{check, first}
 use Rattle.reconstructor_state.specs.declared.BookReconstructor.{BookReconstructor}
 use Rattle.reconstructor_segments.specs.declared.Segment.{Segment}
-use Rattle.reconstructor_segments.specs.Segments.{lastSegment, superseded, started}
-use Rattle.reconstructor_segments.proofs.Last.{length-relast}
-use Rattle.reconstructor_state.specs.State.{viewOf, lengthsOf, withCounts}
+use Rattle.reconstructor_segments.specs.Segments.{noSegment, lastSegment, relast, started}
+use Rattle.reconstructor_segments.proofs.Last.{length-relast, relast-same}
+use Rattle.reconstructor_state.specs.State.{viewWith, lengthsWith, withCounts}
 use Rattle.reconstructor_checks.specs.Own.{broken, bookRefusal, Usable}
 use Rattle.reconstructor_bootstrap.specs.declared.SnapshotError.{SnapshotError}
 use Rattle.reconstructor_bootstrap.specs.declared.SnapshotError.the-variants.{WrongProduct, DuplicateId, InvalidValue, Crossed, CapacityExceeded}
@@ -37,7 +39,7 @@ use Rattle.reconstructor_bootstrap.specs.declared.SnapshotAnswer.{Snapsh
 use Rattle.reconstructor_bootstrap.specs.declared.SnapshotAnswer.the-variants.{Bootstrapped, Unusable, NotAPiece, AmountOutOfRange, ListFull, Rejected}
 use Rattle.reconstructor_bootstrap.specs.Numbers.{snapshotNumber}
 use Rattle.reconstructor_bootstrap.specs.Snapshot.{pieceAnswer, snapshotLine, notPositive, lineRefusal, snapshotRefusal, acceptRefusal, pieceRefusal, bootRefusal}
-use Rattle.reconstructor_bootstrap.specs.Bootstrap.{Parts, refusedBook, refused, bootedBook, closed, segmentAdded, accepted, settled, taken, bootstrapped}
+use Rattle.reconstructor_bootstrap.specs.Bootstrap.{Parts, refusedBook, bootedBook, closed, accepted, unlessRefused, taken, putBack, bootstrappedTo, bootstrapped}
 use Rattle.reconstructor_bootstrap.specs.Places.{entryAt, entriesFrom}
 use Rattle.laws.proofs.Bools.{or-no, or-both, and-yes}
 use Rattle.book.proofs.Kept.{snapshot-kept}
@@ -103,92 +105,96 @@ fits bytes s b r h =
 
 -- ---- acceptance
 
+-- why it is turned away, lent that list
+abbrev pub refusalOf : ℕ → BookReconstructor → Memory → List Segment → List ℕ → Option SnapshotAnswer
+refusalOf top b mem sg bytes =
+    bootRefusal top (b .«product_id») (b .rules) (lengthsWith mem (length sg)) (broken b mem) (viewWith b mem (lastSegment sg (b .segments))) bytes
+
+-- what a snapshot leaves where it is taken
+abbrev pub acceptedParts : BookReconstructor → Memory → List Segment → ℕ → List Entry → Parts
+acceptedParts b mem sg sequence line = putBack sg (b .segments) (accepted b mem (lastSegment sg (b .segments)) sequence line)
+
 -- a snapshot that meets no number
-pub record Accepted (top : ℕ) (b : BookReconstructor) (ws : List ℕ) (sg : List Segment) (bytes : List ℕ) : Type 0 where
+pub record Accepted (top : ℕ) (b : BookReconstructor) (mem : Memory) (sg : List Segment) (bytes : List ℕ) : Type 0 where
   pub snapshot : L3Snapshot
-  pub is : bootstrapped top b ws sg bytes ≡ accepted b ws sg (snapshot .sequence) (snapshotLine snapshot bytes)
-  pub before : Usable top b ws (length sg)
+  pub is : bootstrapped top b mem sg bytes ≡ acceptedParts b mem sg (snapshot .sequence) (snapshotLine snapshot bytes)
+  pub before : Usable top b mem (length sg)
   pub room : b .segments < length sg
   pub fits : SnapshotFits (b .rules .«max_orders») (b .rules .«max_levels») (snapshotLine snapshot bytes)
 
-abbrev pub refusalOf : ℕ → BookReconstructor → List ℕ → List Segment → List ℕ → Option SnapshotAnswer
-refusalOf top b ws sg bytes = bootRefusal top (b .«product_id») (b .rules) (lengthsOf ws sg) (broken b ws) (viewOf b ws sg) bytes
+module _ (top : ℕ) (b : BookReconstructor) (mem : Memory) (sg : List Segment) (bytes : List ℕ) where
+  abbrev last : Segment
+  last = lastSegment sg (b .segments)
 
-taken-is : (top : ℕ) (b : BookReconstructor) (ws : List ℕ) (sg : List Segment) (bytes : List ℕ) → refusalOf top b ws sg bytes ≡ none
-    → bootstrapped top b ws sg bytes ≡ taken (readSnapshot bytes) b ws sg bytes
-unfolding bootstrapped
-taken-is top b ws sg bytes h = ap (λ o. settled o b ws sg (taken (readSnapshot bytes) b ws sg bytes)) h
+  -- by what it is turned away for
+  settles : (o : Option SnapshotAnswer) → refusalOf top b mem sg bytes ≡ o
+      → bootstrapped top b mem sg bytes ≡ putBack sg (b .segments) (unlessRefused o b mem (length sg) last (taken (readSnapshot bytes) b mem (length sg) last bytes))
+  unfolding bootstrapped bootstrappedTo
+  settles o h = ap (λ x. putBack sg (b .segments) (unlessRefused x b mem (length sg) last (taken (readSnapshot bytes) b mem (length sg) last bytes))) h
 
-pub is-accepted : (top : ℕ) (b : BookReconstructor) (ws : List ℕ) (sg : List Segment) (bytes : List ℕ) → refusalOf top b ws sg bytes ≡ none → Accepted top b ws sg bytes
-unfolding bootRefusal acceptRefusal
-is-accepted top b ws sg bytes h = go (readSnapshot bytes) refl (first-passed _ _ _ h .1)
-  where
-    own : bookRefusal top b ws (length sg) ≡ none
-    own = first-passed _ _ _ h .0
+  pub is-accepted : refusalOf top b mem sg bytes ≡ none → Accepted top b mem sg bytes
+  unfolding bootRefusal acceptRefusal
+  is-accepted h = go (readSnapshot bytes) refl (first-passed _ _ _ h .1)
+    where
+      own : bookRefusal top b mem (length sg) ≡ none
+      own = first-passed _ _ _ h .0
 
-    u : Usable top b ws (length sg)
-    u = usable top b ws (length sg) own
+      u : Usable top b mem (length sg)
+      u = usable top b mem (length sg) own
 
-    go : (r : ReadSnapshot) → readSnapshot bytes ≡ r → pieceRefusal (b .«product_id») (b .rules) (lengthsOf ws sg) (viewOf b ws sg) r bytes ≡ none → Accepted top b ws sg bytes
-    go (Refused e) q k = let z : _≡_ {A = ℕ} 0 1 = cc in absurd (omega arith)
-    go (Snapshot s) q k =
-        let full = passed _ _ _ k in
-        let vetted = first-passed _ _ _ (full .1) in
-        let differ : length sg ≡ b .segments → ⊥ = eqb-false (length sg) (b .segments) (full .0) in
-        record {
-          snapshot = s;
-          is = taken-is top b ws sg bytes h ∙ ap (λ r. taken r b ws sg bytes) q;
-          before = u;
-          room = omega (arith, differ, segments-lent b ws (length sg) (u .lent));
-          fits = fits bytes s b q (vetted .0);
-        }
+      go : (r : ReadSnapshot) → readSnapshot bytes ≡ r → pieceRefusal (b .«product_id») (b .rules) (lengthsWith mem (length sg)) (viewWith b mem last) r bytes ≡ none → Accepted top b mem sg bytes
+      go (Refused e) q k = let z : _≡_ {A = ℕ} 0 1 = cc in absurd (omega arith)
+      go (Snapshot s) q k =
+          let full = passed _ _ _ k in
+          let vetted = first-passed _ _ _ (full .1) in
+          let differ : length sg ≡ b .segments → ⊥ = eqb-false (length sg) (b .segments) (full .0) in
+          record {
+            snapshot = s;
+            is = settles none h ∙ ap (λ r. putBack sg (b .segments) (taken r b mem (length sg) last bytes)) q;
+            before = u;
+            room = omega (arith, differ, segments-lent b mem (length sg) (u .lent));
+            fits = fits bytes s b q (vetted .0);
+          }
 
--- ending the open segment keeps the list's length
-pub length-closed : (st : Status) (sg : List Segment) (n : ℕ) → length (closed st sg n) ≡ length sg
-unfolding closed
-length-closed Empty sg n = refl
-length-closed (Valid last) sg n = length-relast sg n (superseded (lastSegment sg n))
-length-closed (Invalidated i) sg n = refl
+  -- the rows that it leaves are well formed
+  pub accepted-formed : refusalOf top b mem sg bytes ≡ none
+      → WellFormed (b .rules .«max_orders») (b .rules .«max_levels») (ordersOf (bootstrapped top b mem sg bytes .memory) (bootstrapped top b mem sg bytes .book .rows))
+  accepted-formed h =
+      let a = is-accepted h in
+      let l = snapshotLine (a .snapshot) bytes in
+      let t = a .snapshot .sequence in
+      let r : rowsOf (stored (mem .rows) (b .rows) (map (snapshotRow t) l)) (length l) ≡ map (snapshotRow t) l = rw (length-map l (snapshotRow t)) at (rows-stored (mem .rows) (b .rows) (map (snapshotRow t) l)) in
+      rw (a .is, r) (snapshot-kept (b .rules .«max_orders») (b .rules .«max_levels») t l (a .fits))
 
--- the rows that it leaves are well formed
-pub accepted-formed : (top : ℕ) (b : BookReconstructor) (ws : List ℕ) (sg : List Segment) (bytes : List ℕ) → refusalOf top b ws sg bytes ≡ none
-    → WellFormed (b .rules .«max_orders») (b .rules .«max_levels») (rowsOf (bootstrapped top b ws sg bytes .rows) (bootstrapped top b ws sg bytes .book .rows))
-accepted-formed top b ws sg bytes h =
-    let a = is-accepted top b ws sg bytes h in
-    let l = snapshotLine (a .snapshot) bytes in
-    let t = a .snapshot .sequence in
-    let r : rowsOf (stored ws (b .rows) (map (snapshotRow t) l)) (length l) ≡ map (snapshotRow t) l = rw (length-map l (snapshotRow t)) at (rows-stored ws (b .rows) (map (snapshotRow t) l)) in
-    rw (a .is, r) (snapshot-kept (b .rules .«max_orders») (b .rules .«max_levels») t l (a .fits))
-
--- and the state, with what it is lent, passes 1, 2 and 3 at the next call
-pub accepted-usable : (top : ℕ) (b : BookReconstructor) (ws : List ℕ) (sg : List Segment) (bytes : List ℕ) → refusalOf top b ws sg bytes ≡ none
-    → Usable top (bootstrapped top b ws sg bytes .book) (bootstrapped top b ws sg bytes .rows) (length (bootstrapped top b ws sg bytes .segments))
-accepted-usable top b ws sg bytes h =
-    let a = is-accepted top b ws sg bytes h in
-    let l : List Entry = snapshotLine (a .snapshot) bytes in
-    let t = a .snapshot .sequence in
-    let os : List Resting = map (snapshotRow t) l in
-    let n : length os ≡ length l = length-map l (snapshotRow t) in
-    let s = sound b ws (a .before .sound) in
-    let m = rows-lent b ws (length sg) (a .before .lent) in
-    let r : rowsOf (stored ws (b .rows) os) (length l) ≡ os = rw n at (rows-stored ws (b .rows) os) in
-    let d = length-set (closed (b .status) sg (b .segments)) (b .segments) (started t) ∙ length-closed (b .status) sg (b .segments) in
-    let f = length-stored ws (b .rows) os (omega (arith, s .few)) (omega (arith, a .fits .few)) in
-    rw (a .is)
-    (record {
-      within = a .before .within;
-      lent = or-both _ _ (le-ltb (length (stored ws (b .rows) os)) (8 * b .rules .«max_orders») (omega (arith, f, m)))
-          (le-ltb (length (segmentAdded (b .status) sg (b .segments) t)) (b .segments + 1) (omega (arith, d, a .room)));
-      sound = kept (bootedBook b t (length l)) (stored ws (b .rows) os) os r n
-          (snapshot-kept (b .rules .«max_orders») (b .rules .«max_levels») t l (a .fits))
-          (ne-eqb (b .segments + 1) 0 (λ z. omega (arith, z)));
-    })
+  -- and the state, with what it is lent, passes 1, 2 and 3 at the next call
+  pub accepted-usable : refusalOf top b mem sg bytes ≡ none
+      → Usable top (bootstrapped top b mem sg bytes .book) (bootstrapped top b mem sg bytes .memory) (length (bootstrapped top b mem sg bytes .segments))
+  accepted-usable h =
+      let a = is-accepted h in
+      let l : List Entry = snapshotLine (a .snapshot) bytes in
+      let t = a .snapshot .sequence in
+      let os : List Resting = map (snapshotRow t) l in
+      let n : length os ≡ length l = length-map l (snapshotRow t) in
+      let s = sound b mem (a .before .sound) in
+      let m = rows-lent b mem (length sg) (a .before .lent) in
+      let r : rowsOf (stored (mem .rows) (b .rows) os) (length l) ≡ os = rw n at (rows-stored (mem .rows) (b .rows) os) in
+      let d = length-set (relast sg (b .segments) (closed (b .status) last)) (b .segments) (started t) ∙ length-relast sg (b .segments) (closed (b .status) last) in
+      let f = length-stored (mem .rows) (b .rows) os (omega (arith, s .few)) (omega (arith, a .fits .few)) in
+      rw (a .is)
+      (record {
+        within = a .before .within;
+        lent = or-both _ _ (le-ltb (length (stored (mem .rows) (b .rows) os)) (8 * b .rules .«max_orders») (omega (arith, f, m)))
+            (le-ltb (length (acceptedParts b mem sg t l .segments)) (b .segments + 1) (omega (arith, d, a .room)));
+        sound = kept (bootedBook b t (length l)) (memory (stored (mem .rows) (b .rows) os)) os r n
+            (snapshot-kept (b .rules .«max_orders») (b .rules .«max_levels») t l (a .fits))
+            (ne-eqb (b .segments + 1) 0 (λ z. omega (arith, z)));
+      })
 
 -- ---- refusal
 
 -- 01, bootstrap: "leave all else; a valid book stays valid"; nothing that is lent changes
-pub record Untouched (b : BookReconstructor) (ws : List ℕ) (sg : List Segment) (p : Parts) : Type 0 where
-  pub rows : p .rows ≡ ws
+pub record Untouched (b : BookReconstructor) (mem : Memory) (sg : List Segment) (p : Parts) : Type 0 where
+  pub memory : p .memory ≡ mem
   pub segments : p .segments ≡ sg
   pub status : p .book .status ≡ b .status
   pub rules : p .book .rules ≡ b .rules
@@ -204,31 +210,36 @@ counts-alone AmountOutOfRange b = refl
 counts-alone ListFull b = refl
 counts-alone (Rejected e) b = refl
 
-pub refused-is : (top : ℕ) (b : BookReconstructor) (ws : List ℕ) (sg : List Segment) (bytes : List ℕ) (x : SnapshotAnswer) → refusalOf top b ws sg bytes ≡ some x
-    → bootstrapped top b ws sg bytes ≡ refused x b ws sg
-unfolding bootstrapped
-refused-is top b ws sg bytes x h = ap (λ o. settled o b ws sg (taken (readSnapshot bytes) b ws sg bytes)) h
+-- what it leaves
+abbrev pub refusedParts : SnapshotAnswer → BookReconstructor → Memory → List Segment → Parts
+refusedParts x b mem sg = record { answer = x; book = refusedBook x b; memory = mem; segments = sg }
 
-pub refused-keeps : (top : ℕ) (b : BookReconstructor) (ws : List ℕ) (sg : List Segment) (bytes : List ℕ) (x : SnapshotAnswer) → refusalOf top b ws sg bytes ≡ some x
-    → Untouched b ws sg (bootstrapped top b ws sg bytes)
-refused-keeps top b ws sg bytes x h =
-    let e : refusedBook x b ≡ withCounts b (refusedBook x b .counts) = counts-alone x b in
-    rw (refused-is top b ws sg bytes x h)
-    (record {
-      rows = refl;
-      segments = refl;
-      status = ap (λ (k : BookReconstructor). k .status) e;
-      rules = ap (λ (k : BookReconstructor). k .rules) e;
-      count = ap (λ (k : BookReconstructor). k .rows) e;
-      listed = ap (λ (k : BookReconstructor). k .segments) e;
-    })
+module _ (top : ℕ) (b : BookReconstructor) (mem : Memory) (sg : List Segment) (bytes : List ℕ) (x : SnapshotAnswer) (h : refusalOf top b mem sg bytes ≡ some x) where
+  -- the last record rewritten with itself, and one past the end, leave the list
+  same : set (relast sg (b .segments) (lastSegment sg (b .segments))) (length sg) noSegment ≡ sg
+  same = ap (λ l. set l (length sg) noSegment) (relast-same sg (b .segments)) ∙ set-out sg (length sg) noSegment (omega arith)
 
--- a usable state stays usable
-pub refused-usable : (top : ℕ) (b : BookReconstructor) (ws : List ℕ) (sg : List Segment) (bytes : List ℕ) (x : SnapshotAnswer) → refusalOf top b ws sg bytes ≡ some x → Usable top b ws (length sg)
-    → Usable top (bootstrapped top b ws sg bytes .book) (bootstrapped top b ws sg bytes .rows) (length (bootstrapped top b ws sg bytes .segments))
-unfolding broken
-refused-usable top b ws sg bytes x h u =
-    rw (refused-is top b ws sg bytes x h, counts-alone x b) (record { within = u .within; lent = u .lent; sound = u .sound })
+  pub refused-is : bootstrapped top b mem sg bytes ≡ refusedParts x b mem sg
+  refused-is = settles top b mem sg bytes (some x) h ∙ ap (λ l. refusedParts x b mem l) same
+
+  pub refused-keeps : Untouched b mem sg (bootstrapped top b mem sg bytes)
+  refused-keeps =
+      let e : refusedBook x b ≡ withCounts b (refusedBook x b .counts) = counts-alone x b in
+      rw refused-is
+      (record {
+        memory = refl;
+        segments = refl;
+        status = ap (λ (k : BookReconstructor). k .status) e;
+        rules = ap (λ (k : BookReconstructor). k .rules) e;
+        count = ap (λ (k : BookReconstructor). k .rows) e;
+        listed = ap (λ (k : BookReconstructor). k .segments) e;
+      })
+
+  -- a usable state stays usable
+  pub refused-usable : Usable top b mem (length sg)
+      → Usable top (bootstrapped top b mem sg bytes .book) (bootstrapped top b mem sg bytes .memory) (length (bootstrapped top b mem sg bytes .segments))
+  unfolding broken
+  refused-usable u = rw (refused-is, counts-alone x b) (record { within = u .within; lent = u .lent; sound = u .sound })
 
 -- ---- number 0 is acceptance
 
@@ -265,19 +276,19 @@ piece-turned pieces.OutOfRange = lit< tt
 no-more : (x : SnapshotAnswer) → _≡_ {A = Option SnapshotAnswer} none (some x) → Turned x
 no-more x q = let z : _≡_ {A = ℕ} 0 1 = cc in absurd (omega arith)
 
-refusal-turned : (top : ℕ) (b : BookReconstructor) (ws : List ℕ) (sg : List Segment) (bytes : List ℕ) (x : SnapshotAnswer) → refusalOf top b ws sg bytes ≡ some x → Turned x
+refusal-turned : (top : ℕ) (b : BookReconstructor) (mem : Memory) (sg : List Segment) (bytes : List ℕ) (x : SnapshotAnswer) → refusalOf top b mem sg bytes ≡ some x → Turned x
 unfolding bootRefusal acceptRefusal
-refusal-turned top b ws sg bytes x h = first-all Turned _ Unusable _ x state-turned (go (readSnapshot bytes)) h
+refusal-turned top b mem sg bytes x h = first-all Turned _ Unusable _ x state-turned (go (readSnapshot bytes)) h
   where
-    go : (r : ReadSnapshot) → pieceRefusal (b .«product_id») (b .rules) (lengthsOf ws sg) (viewOf b ws sg) r bytes ≡ some x → Turned x
+    go : (r : ReadSnapshot) → pieceRefusal (b .«product_id») (b .rules) (lengthsWith mem (length sg)) (viewWith b mem (lastSegment sg (b .segments))) r bytes ≡ some x → Turned x
     go (Refused e) q = let d : pieceAnswer e ≡ x = cc in subst Turned d (piece-turned e)
     go (Snapshot s) q = check-all Turned _ ListFull _ x (lit< tt) (first-all Turned _ Rejected none x snapshot-turned (no-more x)) q
 
-pub zero-accepts : (top : ℕ) (b : BookReconstructor) (ws : List ℕ) (sg : List Segment) (bytes : List ℕ) → snapshotNumber (bootstrapped top b ws sg bytes .answer) ≡ 0 → refusalOf top b ws sg bytes ≡ none
-zero-accepts top b ws sg bytes h = go (refusalOf top b ws sg bytes) refl
+pub zero-accepts : (top : ℕ) (b : BookReconstructor) (mem : Memory) (sg : List Segment) (bytes : List ℕ) → snapshotNumber (bootstrapped top b mem sg bytes .answer) ≡ 0 → refusalOf top b mem sg bytes ≡ none
+zero-accepts top b mem sg bytes h = go (refusalOf top b mem sg bytes) refl
   where
-    go : (o : Option SnapshotAnswer) → refusalOf top b ws sg bytes ≡ o → o ≡ none
+    go : (o : Option SnapshotAnswer) → refusalOf top b mem sg bytes ≡ o → o ≡ none
     go none q = refl
     go (some x) q =
-        let e = ap (λ (p : Parts). snapshotNumber (p .answer)) (refused-is top b ws sg bytes x q) in
-        absurd (omega (arith, e, h, refusal-turned top b ws sg bytes x q))
+        let e = ap (λ (p : Parts). snapshotNumber (p .answer)) (refused-is top b mem sg bytes x q) in
+        absurd (omega (arith, e, h, refusal-turned top b mem sg bytes x q))

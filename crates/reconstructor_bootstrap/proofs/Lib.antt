@@ -3,5 +3,4 @@ pub mod Filled
 pub mod Vetted
 pub mod Whole
 pub mod Laws
-pub mod ByValue
 pub mod BootShell

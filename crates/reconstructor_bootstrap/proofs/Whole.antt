@@ -13,7 +13,8 @@ use Rattle.piece.specs.declared.PieceError.{PieceError}
 use Rattle.piece.specs.declared.ReadSnapshot.the-variants.{Snapshot, Refused}
 use Rattle.piece.specs.Piece.{readSnapshot}
 use Rattle.book.specs.Line.{Entry}
-use Rattle.book.specs.Rows.{ceiling, rowsOf, lineOf, stored}
+use Rattle.book.specs.Rows.{mostRows, rowsOf, lineOf, stored}
+use Rattle.book.specs.Memory.{Memory}
 use Rattle.reconstructor_state.specs.declared.VenueRules.{VenueRules}
 use Rattle.reconstructor_answers.specs.declared.StateError.{StateError}
 use Rattle.reconstructor_state.specs.declared.BookReconstructor.{BookReconstructor}
@@ -24,8 +25,8 @@ use Rattle.reconstructor_bootstrap.specs.declared.SnapshotError.{Snapsho
 use Rattle.reconstructor_bootstrap.specs.declared.SnapshotAnswer.{SnapshotAnswer}
 use Rattle.reconstructor_bootstrap.specs.declared.SnapshotAnswer.the-variants.{Unusable, ListFull, Rejected}
 use Rattle.reconstructor_bootstrap.specs.Snapshot.{snapshotLine, snapshotRefusal, pieceAnswer, acceptRefusal, pieceRefusal, bootRefusal}
-use Rattle.reconstructor_bootstrap.specs.ByValue.{Booted, booted, refusedWork, acceptedTo, settledTo, usableTo, bootstrappedTo}
-use Rattle.reconstructor_bootstrap.specs.Places.{entriesFrom, rowsAt, Room}
+use Rattle.reconstructor_bootstrap.specs.Bootstrap.{Booted, booted, refusedWork, accepted, unlessRefused, bootstrappedTo}
+use Rattle.reconstructor_bootstrap.specs.Places.{entriesFrom, rowsAt, Room, usableTo}
 use Rattle.book.proofs.Kept.{line-snapshot}
 use Rattle.book.proofs.Stored.{rows-stored}
 use Rattle.reconstructor_state.proofs.Checks.{fails, goes-on, passed, first-fails, first-on}
@@ -45,14 +46,14 @@ length-snapshot s bytes = ap length (line-places s bytes) ∙ entries-length (s 
 
 -- ---- what the work leaves
 
-pub booted-path : {a b : Booted} → a .answer ≡ b .answer → a .book ≡ b .book → a .rows ≡ b .rows → a .segment ≡ b .segment → a .at ≡ b .at → a .started ≡ b .started → a ≡ b
-booted-path p q r s t u = λ k. record { answer = p k; book = q k; rows = r k; segment = s k; at = t k; started = u k }
+pub booted-path : {a b : Booted} → a .answer ≡ b .answer → a .book ≡ b .book → a .memory ≡ b .memory → a .segment ≡ b .segment → a .at ≡ b .at → a .started ≡ b .started → a ≡ b
+booted-path p q r s t u = λ k. record { answer = p k; book = q k; memory = r k; segment = s k; at = t k; started = u k }
 
-module _ {o : Option SnapshotAnswer} (b : BookReconstructor) (ws : List ℕ) (lent : ℕ) (g : Segment) (p : Booted) where
-  settled-some : {a : SnapshotAnswer} → o ≡ some a → booted (refusedWork a b lent g) ws ≡ settledTo o b ws lent g p
+module _ {o : Option SnapshotAnswer} (b : BookReconstructor) (mem : Memory) (lent : ℕ) (g : Segment) (p : Booted) where
+  settled-some : {a : SnapshotAnswer} → o ≡ some a → booted (refusedWork a b lent g) mem ≡ unlessRefused o b mem lent g p
   settled-some e = rw e
 
-  settled-none : o ≡ none → p ≡ settledTo o b ws lent g p
+  settled-none : o ≡ none → p ≡ unlessRefused o b mem lent g p
   settled-none e = rw e
 
 -- ---- 6, 10 to 14
@@ -61,45 +62,45 @@ pub few-orders : (product : ProductId) (v : VenueRules) (s : L3Snapshot) (line :
 unfolding snapshotRefusal
 few-orders product v s line h = ltb-false (v .«max_orders») (s .bids + s .asks) (passed _ _ _ (passed _ _ _ h .1) .0)
 
-module _ (b : BookReconstructor) (ws : List ℕ) (lent : ℕ) (g : Segment) (bytes : List ℕ) (s : L3Snapshot) where
-  pub list-full : lent ≡ b .segments → booted (refusedWork ListFull b lent g) ws ≡ usableTo b ws lent g bytes s
+module _ (b : BookReconstructor) (mem : Memory) (lent : ℕ) (g : Segment) (bytes : List ℕ) (s : L3Snapshot) where
+  pub list-full : lent ≡ b .segments → booted (refusedWork ListFull b lent g) mem ≡ usableTo b mem lent g bytes s
   unfolding acceptRefusal
-  list-full h = settled-some b ws lent g _ (fails _ _ _ (eq-eqb lent (b .segments) h))
+  list-full h = settled-some b mem lent g _ (fails _ _ _ (eq-eqb lent (b .segments) h))
 
   module _ (h : lent ≡ b .segments → ⊥) where
-    pub snapshot-refused : (e : SnapshotError) → snapshotRefusal (b .«product_id») (b .rules) s (snapshotLine s bytes) ≡ some e → booted (refusedWork (Rejected e) b lent g) ws ≡ usableTo b ws lent g bytes s
+    pub snapshot-refused : (e : SnapshotError) → snapshotRefusal (b .«product_id») (b .rules) s (snapshotLine s bytes) ≡ some e → booted (refusedWork (Rejected e) b lent g) mem ≡ usableTo b mem lent g bytes s
     unfolding acceptRefusal
-    snapshot-refused e q = settled-some b ws lent g _ (goes-on _ _ _ _ (ne-eqb lent (b .segments) h) (first-fails _ _ _ e q))
+    snapshot-refused e q = settled-some b mem lent g _ (goes-on _ _ _ _ (ne-eqb lent (b .segments) h) (first-fails _ _ _ e q))
 
-    pub snapshot-fits : snapshotRefusal (b .«product_id») (b .rules) s (snapshotLine s bytes) ≡ none → acceptedTo b ws g (s .sequence) (snapshotLine s bytes) ≡ usableTo b ws lent g bytes s
+    pub snapshot-fits : snapshotRefusal (b .«product_id») (b .rules) s (snapshotLine s bytes) ≡ none → accepted b mem g (s .sequence) (snapshotLine s bytes) ≡ usableTo b mem lent g bytes s
     unfolding acceptRefusal
-    snapshot-fits q = settled-none b ws lent g _ (goes-on _ _ _ _ (ne-eqb lent (b .segments) h) (first-on _ _ _ _ q refl))
+    snapshot-fits q = settled-none b mem lent g _ (goes-on _ _ _ _ (ne-eqb lent (b .segments) h) (first-on _ _ _ _ q refl))
 
 -- ---- a usable state has room
 
-module _ (b : BookReconstructor) (ws : List ℕ) (lent : ℕ) (u : Usable ceiling b ws lent) where
-  pub room-for : (n : ℕ) → n ≤ b .rules .«max_orders» → Room ws (b .rows) n
+module _ (b : BookReconstructor) (mem : Memory) (lent : ℕ) (u : Usable mostRows b mem lent) where
+  pub room-for : (n : ℕ) → n ≤ b .rules .«max_orders» → Room (mem .rows) (b .rows) n
   room-for n h =
-      let l = rows-ready b ws (trusted ceiling b ws lent u) in
-      let m = orders-within ceiling (b .rules) (u .within) in
-      let r = rows-lent b ws lent (u .lent) in
+      let l = rows-ready mostRows b mem (omega arith) (trusted mostRows b mem lent u) in
+      let m = orders-within mostRows (b .rules) (u .within) in
+      let r = rows-lent b mem lent (u .lent) in
       record { before = l .room; room = omega arith; fewBefore = l .few; few = omega arith }
 
   pub segment-room : (lent ≡ b .segments → ⊥) → b .segments < lent
-  segment-room h = omega (arith, h, segments-lent b ws lent (u .lent))
+  segment-room h = omega (arith, h, segments-lent b mem lent (u .lent))
 
 -- ---- the whole
 
-module _ (top : ℕ) (b : BookReconstructor) (ws : List ℕ) (lent : ℕ) (g : Segment) (bytes : List ℕ) where
-  pub unusable : (e : StateError) → bookRefusal top b ws lent ≡ some e → booted (refusedWork (Unusable e) b lent g) ws ≡ bootstrappedTo top b ws lent g bytes
+module _ (top : ℕ) (b : BookReconstructor) (mem : Memory) (lent : ℕ) (g : Segment) (bytes : List ℕ) where
+  pub unusable : (e : StateError) → bookRefusal top b mem lent ≡ some e → booted (refusedWork (Unusable e) b lent g) mem ≡ bootstrappedTo top b mem lent g bytes
   unfolding bootstrappedTo bootRefusal
-  unusable e h = settled-some b ws lent g _ (first-fails _ _ _ e h)
+  unusable e h = settled-some b mem lent g _ (first-fails _ _ _ e h)
 
-  module _ (h : bookRefusal top b ws lent ≡ none) where
-    pub not-read : (e : PieceError) → readSnapshot bytes ≡ Refused e → booted (refusedWork (pieceAnswer e) b lent g) ws ≡ bootstrappedTo top b ws lent g bytes
+  module _ (h : bookRefusal top b mem lent ≡ none) where
+    pub not-read : (e : PieceError) → readSnapshot bytes ≡ Refused e → booted (refusedWork (pieceAnswer e) b lent g) mem ≡ bootstrappedTo top b mem lent g bytes
     unfolding bootstrappedTo bootRefusal
-    not-read e q = settled-some b ws lent g _ (first-on _ _ _ _ h (ap (λ r. pieceRefusal (b .«product_id») (b .rules) (lengthsWith ws lent) (viewWith b ws g) r bytes) q))
+    not-read e q = settled-some b mem lent g _ (first-on _ _ _ _ h (ap (λ r. pieceRefusal (b .«product_id») (b .rules) (lengthsWith mem lent) (viewWith b mem g) r bytes) q))
 
-    pub read : (s : L3Snapshot) → readSnapshot bytes ≡ Snapshot s → usableTo b ws lent g bytes s ≡ bootstrappedTo top b ws lent g bytes
+    pub read : (s : L3Snapshot) → readSnapshot bytes ≡ Snapshot s → usableTo b mem lent g bytes s ≡ bootstrappedTo top b mem lent g bytes
     unfolding bootstrappedTo bootRefusal
     read s q = rw (q, first-on _ Unusable _ _ h refl)

@@ -1,38 +1,64 @@
--- What `bootstrap` answers and leaves: the state, the rows and the segment list.
+-- What `bootstrap` answers and leaves: the state, the memory and the segment records, for every input.
 use Prim.Native.Nat.{ℕ, _+_}
-use mathlib.Core.List.{List, map}
+use mathlib.Core.List.{List}
 use mathlib.Core.Option.{Option, none, some}
 use lib.ListN.{length, set}
 use Rattle.piece.specs.declared.ReadSnapshot.{ReadSnapshot}
 use Rattle.piece.specs.declared.ReadSnapshot.the-variants.{Snapshot, Refused}
 use Rattle.piece.specs.Piece.{readSnapshot}
 use Rattle.book.specs.Line.{Entry}
-use Rattle.book.specs.Rows.{stored, snapshotRow}
+use Rattle.book.specs.Memory.{Memory, snapshot, changed}
 use Rattle.reconstructor_state.specs.declared.Status.{Status}
 use Rattle.reconstructor_state.specs.declared.Status.the-variants.{Empty, Valid, Invalidated}
 use Rattle.reconstructor_state.specs.declared.BookReconstructor.{BookReconstructor}
-use Rattle.reconstructor_counts.specs.Counts.{countedAt}
+use Rattle.reconstructor_counts.specs.declared.Counter.the-variants.{RejectedSnapshots}
+use Rattle.reconstructor_counts.specs.Counts.{counted}
 use Rattle.reconstructor_segments.specs.declared.Segment.{Segment}
-use Rattle.reconstructor_segments.specs.Segments.{lastSegment, relast, started, superseded}
-use Rattle.reconstructor_state.specs.State.{withCounts, viewOf, lengthsOf}
+use Rattle.reconstructor_segments.specs.Segments.{noSegment, lastSegment, relast, started, superseded}
+use Rattle.reconstructor_state.specs.State.{withCounts, viewWith, lengthsWith}
 use Rattle.reconstructor_checks.specs.Own.{broken}
 use Rattle.reconstructor_bootstrap.specs.declared.SnapshotError.{SnapshotError}
 use Rattle.reconstructor_bootstrap.specs.declared.SnapshotAnswer.{SnapshotAnswer}
 use Rattle.reconstructor_bootstrap.specs.declared.SnapshotAnswer.the-variants.{Bootstrapped, Unusable, NotAPiece, AmountOutOfRange, ListFull, Rejected}
 use Rattle.reconstructor_bootstrap.specs.declared.Reply.{Reply}
+use Rattle.reconstructor_bootstrap.specs.declared.Work.{Work}
 use Rattle.reconstructor_bootstrap.specs.declared.Validated.{Validated}
 use Rattle.reconstructor_bootstrap.specs.declared.Validated.the-variants as validations
 use Rattle.reconstructor_bootstrap.specs.Snapshot.{snapshotLine, pieceAnswer, bootRefusal}
 
--- the answer, the state and the lent memory as a call leaves them
+-- ---- what a call leaves
+
+-- of the state, the memory and the last segment's record, with the record that it starts and that one's place: past the end of the list where it starts none
+pub record Booted : Type 0 where
+  pub answer : SnapshotAnswer
+  pub book : BookReconstructor
+  pub memory : Memory
+  pub segment : Segment
+  pub at : ℕ
+  pub started : Segment
+
+abbrev pub booted : Work → Memory → Booted
+booted w mem = record { answer = w .answer; book = w .book; memory = mem; segment = w .segment; at = w .at; started = w .started }
+
+-- and of the segment list
 pub record Parts : Type 0 where
   pub answer : SnapshotAnswer
   pub book : BookReconstructor
-  pub rows : List ℕ
+  pub memory : Memory
   pub segments : List Segment
 
-abbrev pub leaves : Reply → List ℕ → List Segment → Parts
-leaves r ws sg = record { answer = r .answer; book = r .book; rows = ws; segments = sg }
+abbrev pub leaves : Reply → Memory → List Segment → Parts
+leaves r mem sg = record { answer = r .answer; book = r .book; memory = mem; segments = sg }
+
+-- the record put back as the last of a list's first n, and then the started one at its place
+abbrev pub putBack : List Segment → ℕ → Booted → Parts
+putBack sg n w =
+    record {
+      answer = w .answer;
+      book = w .book;
+      memory = w .memory;
+      segments = set (relast sg n (w .segment)) (w .at) (w .started);
+    }
 
 -- ---- refusals
 
@@ -43,10 +69,12 @@ refusedBook (Unusable e) b = b
 refusedBook NotAPiece b = b
 refusedBook AmountOutOfRange b = b
 refusedBook ListFull b = b
-refusedBook (Rejected e) b = withCounts b (countedAt 11 (b .counts))
+refusedBook (Rejected e) b = withCounts b (counted (b .counts) RejectedSnapshots)
 
-abbrev pub refused : SnapshotAnswer → BookReconstructor → List ℕ → List Segment → Parts
-refused a b ws sg = record { answer = a; book = refusedBook a b; rows = ws; segments = sg }
+-- of a call that is lent so many records
+abbrev pub refusedWork : SnapshotAnswer → BookReconstructor → ℕ → Segment → Work
+refusedWork a b lent g =
+    record { book = refusedBook a b; answer = a; segment = g; at = lent; started = noSegment }
 
 -- ---- acceptance
 
@@ -63,42 +91,46 @@ bootedBook b sequence n =
       counts = b .counts;
     }
 
--- "Acceptance ends an open segment as superseded": the last of n, which is open while the book is valid
-unfoldable pub closed : Status → List Segment → ℕ → List Segment
-closed Empty sg n = sg
-closed (Valid last) sg n = relast sg n (superseded (lastSegment sg n))
-closed (Invalidated i) sg n = sg
+-- "Acceptance ends an open segment as superseded": the last one, which is open while the book is valid
+unfoldable pub closed : Status → Segment → Segment
+closed Empty g = g
+closed (Valid last) g = superseded g
+closed (Invalidated i) g = g
 
--- "adds a segment"
-abbrev pub segmentAdded : Status → List Segment → ℕ → ℕ → List Segment
-segmentAdded status sg n sequence = set (closed status sg n) n (started sequence)
-
--- "and gives rows unknown priority with entered_at = the snapshot's sequence"
-abbrev pub accepted : BookReconstructor → List ℕ → List Segment → ℕ → List Entry → Parts
-accepted b ws sg sequence line =
+-- "adds a segment, and gives rows unknown priority with entered_at = the snapshot's sequence"
+abbrev pub accepted : BookReconstructor → Memory → Segment → ℕ → List Entry → Booted
+accepted b mem g sequence line =
     record {
       answer = Bootstrapped;
       book = bootedBook b sequence (length line);
-      rows = stored ws (b .rows) (map (snapshotRow sequence) line);
-      segments = segmentAdded (b .status) sg (b .segments) sequence;
+      memory = changed mem (b .rows) (snapshot sequence line);
+      segment = closed (b .status) g;
+      at = b .segments;
+      started = started sequence;
     }
 
 -- ---- the call
 
--- a refusal, or else the snapshot that was read is taken
-abbrev pub settled : Option SnapshotAnswer → BookReconstructor → List ℕ → List Segment → Parts → Parts
-settled (some a) b ws sg p = refused a b ws sg
-settled none b ws sg p = p
+-- a refusal, or else what is taken
+abbrev pub unlessRefused : Option SnapshotAnswer → BookReconstructor → Memory → ℕ → Segment → Booted → Booted
+unlessRefused (some a) b mem lent g p = booted (refusedWork a b lent g) mem
+unlessRefused none b mem lent g p = p
 
 -- bytes that are no snapshot have met 4 or 5 before
-abbrev pub taken : ReadSnapshot → BookReconstructor → List ℕ → List Segment → List ℕ → Parts
-taken (Refused e) b ws sg bytes = refused (pieceAnswer e) b ws sg
-taken (Snapshot s) b ws sg bytes = accepted b ws sg (s .sequence) (snapshotLine s bytes)
+abbrev pub taken : ReadSnapshot → BookReconstructor → Memory → ℕ → Segment → List ℕ → Booted
+taken (Refused e) b mem lent g bytes = booted (refusedWork (pieceAnswer e) b lent g) mem
+taken (Snapshot s) b mem lent g bytes = accepted b mem g (s .sequence) (snapshotLine s bytes)
 
-unfoldable pub bootstrapped : ℕ → BookReconstructor → List ℕ → List Segment → List ℕ → Parts
-bootstrapped top b ws sg bytes =
-    settled (bootRefusal top (b .«product_id») (b .rules) (lengthsOf ws sg) (broken b ws) (viewOf b ws sg) bytes) b ws sg
-    (taken (readSnapshot bytes) b ws sg bytes)
+-- the last record being g, of a list of so many; the ceiling of the limits is an argument
+unfoldable pub bootstrappedTo : ℕ → BookReconstructor → Memory → ℕ → Segment → List ℕ → Booted
+bootstrappedTo top b mem lent g bytes =
+    unlessRefused
+    (bootRefusal top (b .«product_id») (b .rules) (lengthsWith mem lent) (broken b mem) (viewWith b mem g) bytes) b mem lent g
+    (taken (readSnapshot bytes) b mem lent g bytes)
+
+-- on a lent list; before any snapshot there is no last record
+unfoldable pub bootstrapped : ℕ → BookReconstructor → Memory → List Segment → List ℕ → Parts
+bootstrapped top b mem sg bytes = putBack sg (b .segments) (bootstrappedTo top b mem (length sg) (lastSegment sg (b .segments)) bytes)
 
 -- ---- the answer of the validation
 

@@ -2,4 +2,3 @@ pub mod Numbers
 pub mod Snapshot
 pub mod Bootstrap
 pub mod Places
-pub mod ByValue

@@ -10,6 +10,7 @@ use piece::PieceError;
 use piece::ReadSnapshot;
 use reconstructor_answers::StateError;
 use reconstructor_checks::Checked;
+use reconstructor_counts::Counter;
 use reconstructor_segments::Segment;
 use reconstructor_state::BookReconstructor;
 use reconstructor_state::Status;
@@ -19,13 +20,14 @@ ghost use mathlib.Core.Bool.{cond};
 ghost use Prim.Native.Nat.{_+_, _≤_, _<_};
 ghost use lib.Dec.{ltb};
 ghost use Rattle.book.specs.Line.{rests, hasLevel};
-ghost use Rattle.book.specs.Rows.{Lent, ceiling, rowsOf, lineOf, idOf, sideOf, stored, snapshotKind, snapshotRow};
+ghost use Rattle.book.specs.Rows.{Lent, mostRows, rowsOf, lineOf, idOf, sideOf, stored, snapshotKind, snapshotRow};
+ghost use Rattle.book.specs.Memory.{memory};
+ghost use Rattle.reconstructor_state.specs.State.{ceiling};
 ghost use Rattle.reconstructor_checks.specs.Own.{Usable};
 ghost use Rattle.reconstructor_bootstrap.specs.Numbers.{snapshotErrorNumber, snapshotTold, snapshotNumber};
 ghost use Rattle.reconstructor_bootstrap.specs.Snapshot.{snapshotLine, lineRefusal, snapshotRefusal, pieceAnswer};
-ghost use Rattle.reconstructor_bootstrap.specs.Bootstrap.{leaves, refusedBook, bootedBook, bootstrapped, validated};
-ghost use Rattle.reconstructor_bootstrap.specs.ByValue.{booted, refusedWork, closedTo, acceptedTo, usableTo, bootstrappedTo, replyOf};
-ghost use Rattle.reconstructor_bootstrap.specs.Places.{sideAt, entryAt, entriesFrom, rowsAt, Room};
+ghost use Rattle.reconstructor_bootstrap.specs.Bootstrap.{booted, leaves, refusedBook, refusedWork, bootedBook, closed, accepted, bootstrappedTo, bootstrapped, validated};
+ghost use Rattle.reconstructor_bootstrap.specs.Places.{sideAt, entryAt, entriesFrom, rowsAt, Room, usableTo, replyOf};
 
 // Why a snapshot is refused, and counted so. 10 to 14.
 pub enum SnapshotError {
@@ -287,7 +289,7 @@ fn validate_512(bytes: &[u8], bids: usize, n: usize, max_levels: usize) -> Valid
 }
 
 fn validate_4096(bytes: &[u8], bids: usize, n: usize, max_levels: usize) -> Validated
-    requires { ⌜ n ≤ ceiling ⌝ }
+    requires { ⌜ n ≤ mostRows ⌝ }
     ensures { λ r. ⌜ r ≡ validated (lineRefusal «max_levels» (entriesFrom bids (now (bytes .entry)) 0 n)) ⌝ }
 {
     let mut rows = [0u64; 32768];
@@ -296,7 +298,7 @@ fn validate_4096(bytes: &[u8], bids: usize, n: usize, max_levels: usize) -> Vali
 }
 
 fn validate_orders(bytes: &[u8], bids: usize, n: usize, max_levels: usize) -> Validated
-    requires { ⌜ n ≤ ceiling ⌝ }
+    requires { ⌜ n ≤ mostRows ⌝ }
     ensures { λ r. ⌜ r ≡ validated (lineRefusal «max_levels» (entriesFrom bids (now (bytes .entry)) 0 n)) ⌝ }
 {
     if n <= 128 {
@@ -325,7 +327,7 @@ fn validate_snapshot(
     bytes: &[u8],
     snapshot: L3Snapshot,
 ) -> Validated
-    requires { ⌜ rules .«max_orders» ≤ ceiling ⌝ }
+    requires { ⌜ rules .«max_orders» ≤ mostRows ⌝ }
     ensures { λ r. ⌜ r ≡ validated (snapshotRefusal product rules snapshot (snapshotLine snapshot (now (bytes .entry)))) ⌝ }
 {
     if !message::same_product(snapshot.product_id, product) {
@@ -363,10 +365,7 @@ fn refused_book(book: BookReconstructor, answer: SnapshotAnswer) -> BookReconstr
         SnapshotAnswer::NotAPiece => book,
         SnapshotAnswer::AmountOutOfRange => book,
         SnapshotAnswer::ListFull => book,
-        SnapshotAnswer::Rejected(_) => {
-            let counts = book.counts;
-            book.with_counts(counts.rejected_snapshot())
-        }
+        SnapshotAnswer::Rejected(_) => book.counting(Counter::RejectedSnapshots),
     }
 }
 
@@ -387,7 +386,7 @@ fn refused(book: BookReconstructor, answer: SnapshotAnswer, lent: usize, last: S
 
 // Ends the last segment as superseded, if it is still open: while the book is valid.
 fn close_last(status: Status, last: Segment) -> Segment
-    ensures { λ r. ⌜ r ≡ closedTo status last ⌝ }
+    ensures { λ r. ⌜ r ≡ closed status last ⌝ }
 {
     match status {
         Status::Empty => last,
@@ -425,7 +424,7 @@ fn accept(
 ) -> Work
     requires { ⌜ Room (now rows) (book .rows) (snapshot .bids + snapshot .asks) ⌝ }
     requires { ⌜ book .segments + 1 < 18446744073709551616 ⌝ }
-    ensures { λ r. ⌜ booted r (now (rows .exit)) ≡ acceptedTo book (now (rows .entry)) last (snapshot .sequence) (snapshotLine snapshot (now (bytes .entry))) ⌝ }
+    ensures { λ r. ⌜ booted r (memory (now (rows .exit))) ≡ accepted book (memory (now (rows .entry))) last (snapshot .sequence) (snapshotLine snapshot (now (bytes .entry))) ⌝ }
 {
     let n = snapshot.bids + snapshot.asks;
     let status = book.status;
@@ -451,8 +450,8 @@ fn bootstrap_usable(
     bytes: &[u8],
     snapshot: L3Snapshot,
 ) -> Work
-    requires { ⌜ Usable ceiling book (now rows) lent ⌝ }
-    ensures { λ r. ⌜ booted r (now (rows .exit)) ≡ usableTo book (now (rows .entry)) lent last (now (bytes .entry)) snapshot ⌝ }
+    requires { ⌜ Usable mostRows book (memory (now rows)) lent ⌝ }
+    ensures { λ r. ⌜ booted r (memory (now (rows .exit))) ≡ usableTo book (memory (now (rows .entry))) lent last (now (bytes .entry)) snapshot ⌝ }
 {
     if lent == book.segments {
         return refused(book, SnapshotAnswer::ListFull, lent, last);
@@ -465,17 +464,19 @@ fn bootstrap_usable(
     }
 }
 
-// `bootstrap` with the last segment's record by value, of a list of `lent` records.
-pub fn bootstrap_by_value(
+// `bootstrap` under a ceiling, with the last segment's record by value, of a list of `lent` records.
+pub fn bootstrap_under(
+    top: usize,
     book: BookReconstructor,
     rows: &mut [u64],
     lent: usize,
     last: Segment,
     bytes: &[u8],
 ) -> Work
-    ensures { λ r. ⌜ booted r (now (rows .exit)) ≡ bootstrappedTo ceiling book (now (rows .entry)) lent last (now (bytes .entry)) ⌝ }
+    requires { ⌜ top ≤ mostRows ⌝ }
+    ensures { λ r. ⌜ booted r (memory (now (rows .exit))) ≡ bootstrappedTo top book (memory (now (rows .entry))) lent last (now (bytes .entry)) ⌝ }
 {
-    let checked = reconstructor_checks::own_checks(book, rows, lent);
+    let checked = reconstructor_checks::own_checks(top, book, rows, lent);
     if let Checked::Refused(why) = checked {
         return refused(book, SnapshotAnswer::Unusable(why), lent, last);
     }
@@ -487,6 +488,19 @@ pub fn bootstrap_by_value(
     }
 }
 
+// Under our ceiling.
+pub fn bootstrap_by_value(
+    book: BookReconstructor,
+    rows: &mut [u64],
+    lent: usize,
+    last: Segment,
+    bytes: &[u8],
+) -> Work
+    ensures { λ r. ⌜ booted r (memory (now (rows .exit))) ≡ bootstrappedTo ceiling book (memory (now (rows .entry))) lent last (now (bytes .entry)) ⌝ }
+{
+    bootstrap_under(VenueRules::CEILING, book, rows, lent, last, bytes)
+}
+
 // Takes the snapshot piece for the book, or says by which number it is turned away. A refused snapshot leaves the book, the rows and the segment
 // list as they were, but for the count of 10 to 14: the last segment's record is rewritten with itself.
 pub fn bootstrap(
@@ -495,7 +509,7 @@ pub fn bootstrap(
     segments: &mut [Segment],
     bytes: &[u8],
 ) -> Reply
-    ensures { λ r. ⌜ (leaves r (now (rows .exit)) (now (segments .exit)) ≡ bootstrapped ceiling book (now (rows .entry)) (now (segments .entry)) (now (bytes .entry))) × (snapshotTold (r .answer) ≡ snapshotTold (bootstrapped ceiling book (now (rows .entry)) (now (segments .entry)) (now (bytes .entry)) .answer)) ⌝ }
+    ensures { λ r. ⌜ (leaves r (memory (now (rows .exit))) (now (segments .exit)) ≡ bootstrapped ceiling book (memory (now (rows .entry))) (now (segments .entry)) (now (bytes .entry))) × (snapshotTold (r .answer) ≡ snapshotTold (bootstrapped ceiling book (memory (now (rows .entry))) (now (segments .entry)) (now (bytes .entry)) .answer)) ⌝ }
 {
     let count = book.segment_count();
     let last = reconstructor_segments::last_segment(segments, count);

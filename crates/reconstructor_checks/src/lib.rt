@@ -4,10 +4,11 @@ use reconstructor_state::BookReconstructor;
 use reconstructor_state::Status;
 use reconstructor_state::VenueRules;
 ghost use mathlib.Core.Path.{_≡_};
-ghost use Prim.Native.Nat.{_*_, _≤_};
-ghost use lib.ListN.{length};
-ghost use Rattle.book.specs.Rows.{ceiling};
-ghost use Rattle.reconstructor_checks.specs.Own.{overCeiling, unsettled, broken, bookRefusal, checked};
+ghost use mathlib.Core.Bool.{false};
+ghost use Prim.Native.Nat.{_≤_};
+ghost use Rattle.book.specs.Rows.{mostRows};
+ghost use Rattle.book.specs.Memory.{memory, extentOf};
+ghost use Rattle.reconstructor_checks.specs.Own.{overCeiling, memoryShort, unsettled, broken, bookRefusal, checked};
 
 // The answer of the own checks.
 pub enum Checked {
@@ -15,11 +16,19 @@ pub enum Checked {
     Refused(StateError),
 }
 
-// Number 1.
-pub fn over_ceiling(rules: VenueRules) -> bool
-    ensures { λ r. ⌜ r ≡ overCeiling ceiling rules ⌝ }
+// Number 1, under a ceiling.
+pub fn over_ceiling(top: usize, rules: VenueRules) -> bool
+    ensures { λ r. ⌜ r ≡ overCeiling top rules ⌝ }
 {
-    (rules.max_orders > VenueRules::MAX_ORDERS) | (rules.max_levels > VenueRules::MAX_LEVELS)
+    (rules.max_orders > top) | (rules.max_levels > top)
+}
+
+// Number 2 of the memory, of rules whose limits the code can work with.
+pub fn memory_short(rules: VenueRules, rows: &[u64]) -> bool
+    requires { ⌜ rules .«max_orders» ≤ mostRows ⌝ }
+    ensures { λ r. ⌜ r ≡ memoryShort rules (extentOf (memory (now (rows .entry)))) ⌝ }
+{
+    rows.len() < book::ROW_WORDS * rules.max_orders
 }
 
 // Number 3's part on the status: "no segment once bootstrapped; rows or segments before".
@@ -35,8 +44,8 @@ fn unsettled(status: Status, rows: usize, segments: usize) -> bool
 
 // Number 3, of a state that passed 1 and whose rows passed 2.
 pub fn broken(book: BookReconstructor, rows: &[u64]) -> bool
-    requires { ⌜ (8 * book .rules .«max_orders» ≤ length (now rows)) × (book .rules .«max_orders» ≤ ceiling) ⌝ }
-    ensures { λ r. ⌜ r ≡ broken book (now (rows .entry)) ⌝ }
+    requires { ⌜ (memoryShort (book .rules) (extentOf (memory (now rows))) ≡ false) × (book .rules .«max_orders» ≤ mostRows) ⌝ }
+    ensures { λ r. ⌜ r ≡ broken book (memory (now (rows .entry))) ⌝ }
 {
     let rules = book.rules;
     let n = book.rows;
@@ -50,15 +59,16 @@ pub fn broken(book: BookReconstructor, rows: &[u64]) -> bool
     unsettled(status, n, book.segments)
 }
 
-// 1, 2 and 3 of a call that is lent rows and a segment list of `lent` records.
-pub fn own_checks(book: BookReconstructor, rows: &[u64], lent: usize) -> Checked
-    ensures { λ r. ⌜ r ≡ checked (bookRefusal ceiling book (now (rows .entry)) lent) ⌝ }
+// 1, 2 and 3 of a call under a ceiling, which is lent rows and a segment list of `lent` records.
+pub fn own_checks(top: usize, book: BookReconstructor, rows: &[u64], lent: usize) -> Checked
+    requires { ⌜ top ≤ mostRows ⌝ }
+    ensures { λ r. ⌜ r ≡ checked (bookRefusal top book (memory (now (rows .entry))) lent) ⌝ }
 {
     let rules = book.rules;
-    if over_ceiling(rules) {
+    if over_ceiling(top, rules) {
         return Checked::Refused(StateError::LimitAboveCeiling);
     }
-    if (rows.len() < 8 * rules.max_orders) | (lent < book.segments) {
+    if memory_short(rules, rows) | (lent < book.segments) {
         return Checked::Refused(StateError::LentTooShort);
     }
     if broken(book, rows) {

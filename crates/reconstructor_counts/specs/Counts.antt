@@ -4,7 +4,7 @@ use mathlib.Core.Bool.{cond}
 use lib.Dec.{eqb, ltb}
 use Rattle.reconstructor_counts.specs.declared.MessageCounts.{MessageCounts}
 use Rattle.reconstructor_counts.specs.declared.Counter.{Counter}
-use Rattle.reconstructor_counts.specs.declared.Counter.the-variants.{Received, Open, Done, Matched, Stp, OffBookDone, OffBookChange, NoopChange}
+use Rattle.reconstructor_counts.specs.declared.Counter.the-variants.{Received, Open, Done, Matched, Stp, OffBookDone, OffBookChange, NoopChange, HandshakeDropped, SkippedWhileInvalid, WrongProduct, RejectedSnapshots}
 
 -- the largest 64-bit number
 abbrev pub largest : ℕ
@@ -63,6 +63,10 @@ placeOf Stp = 4
 placeOf OffBookDone = 5
 placeOf OffBookChange = 6
 placeOf NoopChange = 7
+placeOf HandshakeDropped = 8
+placeOf SkippedWhileInvalid = 9
+placeOf WrongProduct = 10
+placeOf RejectedSnapshots = 11
 
 abbrev pub counted : MessageCounts → Counter → MessageCounts
 counted c k = countedAt (placeOf k) c

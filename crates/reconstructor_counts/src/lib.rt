@@ -1,6 +1,6 @@
 // Messages counted by what they did.
 ghost use mathlib.Core.Path.{_≡_};
-ghost use Rattle.reconstructor_counts.specs.Counts.{saturated, noCounts, counted, countedAt};
+ghost use Rattle.reconstructor_counts.specs.Counts.{saturated, noCounts, counted};
 
 // Messages counted by what they did.
 pub struct MessageCounts {
@@ -24,7 +24,7 @@ pub struct MessageCounts {
     pub rejected_snapshots: u64,
 }
 
-// The counts of accepted messages.
+// The counts by name, in the order of the fields. An accepted message adds to one of the first eight.
 pub enum Counter {
     Received,
     Open,
@@ -34,6 +34,10 @@ pub enum Counter {
     OffBookDone,
     OffBookChange,
     NoopChange,
+    HandshakeDropped,
+    SkippedWhileInvalid,
+    WrongProduct,
+    RejectedSnapshots,
 }
 
 // One more, or the largest number.
@@ -56,6 +60,16 @@ pub fn count(counts: &mut MessageCounts, which: Counter)
         Counter::OffBookDone => counts.off_book_done = saturating_next(counts.off_book_done),
         Counter::OffBookChange => counts.off_book_change = saturating_next(counts.off_book_change),
         Counter::NoopChange => counts.noop_change = saturating_next(counts.noop_change),
+        Counter::HandshakeDropped => counts.handshake_dropped = saturating_next(
+            counts.handshake_dropped,
+        ),
+        Counter::SkippedWhileInvalid => counts.skipped_while_invalid = saturating_next(
+            counts.skipped_while_invalid,
+        ),
+        Counter::WrongProduct => counts.wrong_product = saturating_next(counts.wrong_product),
+        Counter::RejectedSnapshots => counts.rejected_snapshots = saturating_next(
+            counts.rejected_snapshots,
+        ),
     }
 }
 
@@ -77,33 +91,5 @@ impl MessageCounts {
             wrong_product: 0,
             rejected_snapshots: 0,
         }
-    }
-
-    pub fn handshake_dropped(mut self) -> Self
-        ensures { λ r. ⌜ r ≡ countedAt 8 self ⌝ }
-    {
-        self.handshake_dropped = saturating_next(self.handshake_dropped);
-        self
-    }
-
-    pub fn skipped_while_invalid(mut self) -> Self
-        ensures { λ r. ⌜ r ≡ countedAt 9 self ⌝ }
-    {
-        self.skipped_while_invalid = saturating_next(self.skipped_while_invalid);
-        self
-    }
-
-    pub fn wrong_product(mut self) -> Self
-        ensures { λ r. ⌜ r ≡ countedAt 10 self ⌝ }
-    {
-        self.wrong_product = saturating_next(self.wrong_product);
-        self
-    }
-
-    pub fn rejected_snapshot(mut self) -> Self
-        ensures { λ r. ⌜ r ≡ countedAt 11 self ⌝ }
-    {
-        self.rejected_snapshots = saturating_next(self.rejected_snapshots);
-        self
     }
 }

@@ -3,15 +3,15 @@
 use Prim.Native.Nat.{ℕ}
 use mathlib.Core.Path.{_≡_, refl, ap, ap₂, _∙_}
 use mathlib.Core.Bool.{Bool, true, false, _||_}
-use mathlib.Core.List.{List}
 use Rattle.reconstructor_answers.specs.declared.ApplyAnswer.{ApplyAnswer}
 use Rattle.reconstructor_answers.specs.declared.ApplyAnswer.the-variants as answers
 use Rattle.reconstructor.specs.declared.Work.{Work}
-use Rattle.reconstructor.specs.ByValue.{Worked, worked}
+use Rattle.book.specs.Memory.{Memory}
+use Rattle.reconstructor.specs.Applied.{Worked, worked}
 use Rattle.reconstructor_handshake.specs.declared.Handshake.{Handshake}
 use Rattle.reconstructor_handshake.specs.declared.StepAnswer.the-variants.{Stepped}
-use Rattle.reconstructor_handshake.specs.Step.{with, after}
-use Rattle.reconstructor_handshake.specs.ByValue.{ends, appliedBy, StepWorked, decidedTo}
+use Rattle.reconstructor_handshake.specs.Step.{with, after, StepWorked, decided}
+use Rattle.reconstructor_handshake.specs.Trusted.{ends, appliedBy}
 
 or-none : (b : Bool) → (b || false) ≡ b
 or-none true = refl
@@ -38,8 +38,8 @@ module _ (h : Handshake) where
   after-parts (answers.AwaitingSnapshot i) = over
 
   abbrev left : Handshake → Worked → StepWorked
-  left k w = record { answer = Stepped (w .answer); handshake = k; book = w .book; rows = w .rows; segment = w .segment }
+  left k w = record { answer = Stepped (w .answer); handshake = k; book = w .book; memory = w .memory; segment = w .segment }
 
-  pub decided-parts : (w : Work) (ws : List ℕ) (x : Worked) (e : Bool) (n : ℕ) → e ≡ (h .ended || ends (w .answer)) → n ≡ appliedBy (h .applied) (w .answer) → worked w ws ≡ x
-      → left (with h e n) (worked w ws) ≡ decidedTo h x
-  decided-parts w ws x e n p q r = ap (λ (k : Handshake). left k (worked w ws)) (ap₂ (with h) p q ∙ after-parts (w .answer)) ∙ ap (decidedTo h) r
+  pub decided-parts : (w : Work) (mem : Memory) (x : Worked) (e : Bool) (n : ℕ) → e ≡ (h .ended || ends (w .answer)) → n ≡ appliedBy (h .applied) (w .answer) → worked w mem ≡ x
+      → left (with h e n) (worked w mem) ≡ decided h x
+  decided-parts w mem x e n p q r = ap (λ (k : Handshake). left k (worked w mem)) (ap₂ (with h) p q ∙ after-parts (w .answer)) ∙ ap (decided h) r

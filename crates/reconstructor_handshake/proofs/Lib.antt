@@ -1,4 +1,3 @@
 pub mod After
 pub mod Step
-pub mod ByValue
 pub mod StepShell

@@ -6,29 +6,33 @@ use mathlib.Core.Bool.{Bool, true, not, _||_, _&&_, cond}
 use mathlib.Core.List.{List, []}
 use mathlib.Core.Option.{Option, none, some}
 use lib.Dec.{eqb, leb}
+use lib.ListN.{length}
 use Rattle.message.specs.declared.ProductId.{ProductId}
 use Rattle.message.specs.declared.L3Message.{L3Message}
 use Rattle.message.specs.Same.{sameProduct}
 use Rattle.message.specs.Values.{eventInRange}
+use Rattle.book.specs.Memory.{Memory}
 use Rattle.reconstructor_answers.specs.declared.StateError.{StateError}
 use Rattle.reconstructor_answers.specs.declared.ApplyAnswer.{ApplyAnswer}
 use Rattle.reconstructor_answers.specs.declared.ApplyAnswer.the-variants as answers
 use Rattle.message.specs.Told.{Told, told, droppedNumber}
 use Rattle.reconstructor_answers.specs.Numbers.{answerTold}
-use Rattle.reconstructor_counts.specs.Counts.{saturated, countedAt}
+use Rattle.reconstructor_counts.specs.declared.Counter.the-variants.{HandshakeDropped}
+use Rattle.reconstructor_counts.specs.Counts.{saturated, counted}
 use Rattle.reconstructor_segments.specs.declared.Segment.{Segment}
 use Rattle.reconstructor_segments.specs.declared.SegmentName.{SegmentName}
-use Rattle.reconstructor_segments.specs.Segments.{sameSegment}
+use Rattle.reconstructor_segments.specs.Segments.{sameSegment, lastSegment, relast}
 use Rattle.reconstructor_state.specs.declared.VenueRules.{VenueRules}
 use Rattle.reconstructor_state.specs.declared.BookReconstructor.{BookReconstructor}
 use Rattle.reconstructor_state.specs.Checks.{check, first}
-use Rattle.reconstructor_state.specs.State.{View, viewOf, Lengths, lengthsOf, withCounts, segmentOf}
+use Rattle.reconstructor_state.specs.State.{View, viewWith, Lengths, lengthsWith, withCounts, segmentOf}
 use Rattle.reconstructor_checks.specs.Own.{stateRefusal, broken}
-use Rattle.reconstructor.specs.Applied.{Parts, applied}
+use Rattle.reconstructor.specs.Applied.{Worked, appliedTo}
 use Rattle.reconstructor_handshake.specs.declared.Handshake.{Handshake}
 use Rattle.reconstructor_handshake.specs.declared.StepAnswer.{StepAnswer}
 use Rattle.reconstructor_handshake.specs.declared.StepAnswer.the-variants.{Stepped, Dropped, OtherSegment}
 use Rattle.reconstructor_handshake.specs.declared.StepReply.{StepReply}
+use Rattle.reconstructor_handshake.specs.declared.StepWork.{StepWork}
 
 -- "a handshake value for that segment": of a book in so many segments. Before any snapshot there is none, so that it has ended
 abbrev pub newHandshake : SegmentName → ℕ → Handshake
@@ -63,15 +67,32 @@ drops p start m = sameProduct (m .«product_id») p && leb (m .sequence) start
 
 -- ---- what a step leaves
 
+-- of the handshake, the state, the memory and the last segment's record
+pub record StepWorked : Type 0 where
+  pub answer : StepAnswer
+  pub handshake : Handshake
+  pub book : BookReconstructor
+  pub memory : Memory
+  pub segment : Segment
+
+abbrev pub stepWorked : StepWork → Memory → StepWorked
+stepWorked w mem = record { answer = w .answer; handshake = w .handshake; book = w .book; memory = mem; segment = w .segment }
+
+-- and of the segment list
 pub record StepParts : Type 0 where
   pub answer : StepAnswer
   pub handshake : Handshake
   pub book : BookReconstructor
-  pub rows : List ℕ
+  pub memory : Memory
   pub segments : List Segment
 
-abbrev pub stepLeaves : StepReply → List ℕ → List Segment → StepParts
-stepLeaves r ws sg = record { answer = r .answer; handshake = r .handshake; book = r .book; rows = ws; segments = sg }
+abbrev pub stepLeaves : StepReply → Memory → List Segment → StepParts
+stepLeaves r mem sg = record { answer = r .answer; handshake = r .handshake; book = r .book; memory = mem; segments = sg }
+
+-- the record put back as the last of a list's first n
+abbrev pub putBack : List Segment → ℕ → StepWorked → StepParts
+putBack sg n w =
+    record { answer = w .answer; handshake = w .handshake; book = w .book; memory = w .memory; segments = relast sg n (w .segment) }
 
 abbrev pub with : Handshake → Bool → ℕ → Handshake
 with h ended applied = record { segment = h .segment; ended = ended; applied = applied }
@@ -86,27 +107,33 @@ after h answers.NotBootstrapped = h
 after h (answers.Invalidated i) = with h true (h .applied)
 after h (answers.AwaitingSnapshot i) = with h true (h .applied)
 
-abbrev pub unchanged : StepAnswer → Handshake → BookReconstructor → List ℕ → List Segment → StepParts
-unchanged a h b ws sg = record { answer = a; handshake = h; book = b; rows = ws; segments = sg }
+abbrev pub unchanged : StepAnswer → Handshake → BookReconstructor → Memory → Segment → StepWorked
+unchanged a h b mem g = record { answer = a; handshake = h; book = b; memory = mem; segment = g }
 
 -- `apply` has decided
-abbrev pub decided : Handshake → Parts → StepParts
-decided h p =
-    record { answer = Stepped (p .answer); handshake = after h (p .answer); book = p .book; rows = p .rows; segments = p .segments }
+abbrev pub decided : Handshake → Worked → StepWorked
+decided h w =
+    record { answer = Stepped (w .answer); handshake = after h (w .answer); book = w .book; memory = w .memory; segment = w .segment }
 
--- "dropped and counted": handshake_dropped is count 8
-abbrev pub dropped : Handshake → BookReconstructor → List ℕ → List Segment → StepParts
-dropped h b ws sg = unchanged Dropped h (withCounts b (countedAt 8 (b .counts))) ws sg
+-- "dropped and counted"
+abbrev pub dropped : Handshake → BookReconstructor → Memory → Segment → StepWorked
+dropped h b mem g = unchanged Dropped h (withCounts b (counted (b .counts) HandshakeDropped)) mem g
 
-unfoldable pub settledStep : Option StepAnswer → StepParts → Handshake → BookReconstructor → List ℕ → List Segment → StepParts
-settledStep (some a) p h b ws sg = unchanged a h b ws sg
-settledStep none p h b ws sg = p
+-- a refusal, or else what the step does
+unfoldable pub unlessRefused : Option StepAnswer → StepWorked → Handshake → BookReconstructor → Memory → Segment → StepWorked
+unlessRefused (some a) p h b mem g = unchanged a h b mem g
+unlessRefused none p h b mem g = p
 
-unfoldable pub stepped : ℕ → Handshake → BookReconstructor → List ℕ → List Segment → L3Message → StepParts
-stepped top h b ws sg m =
-    settledStep (stepRefusal top (b .rules) (lengthsOf ws sg) (broken b ws) (viewOf b ws sg) (segmentOf b) h m)
-    (cond (drops (b .«product_id») (viewOf b ws sg .startSeq) m) (dropped h b ws sg) (decided h (applied top b ws sg m)))
+-- any step, the last record being g, of a list of so many; the ceiling of the limits is an argument
+unfoldable pub steppedTo : ℕ → Handshake → BookReconstructor → Memory → ℕ → Segment → L3Message → StepWorked
+steppedTo top h b mem lent g m =
+    unlessRefused (stepRefusal top (b .rules) (lengthsWith mem lent) (broken b mem) (viewWith b mem g) (segmentOf b) h m)
+    (cond (drops (b .«product_id») (g .«start_seq») m) (dropped h b mem g) (decided h (appliedTo top b mem lent g m)))
     h
     b
-    ws
-    sg
+    mem
+    g
+
+-- on a lent list; before any snapshot there is no last record
+unfoldable pub stepped : ℕ → Handshake → BookReconstructor → Memory → List Segment → L3Message → StepParts
+stepped top h b mem sg m = putBack sg (b .segments) (steppedTo top h b mem (length sg) (lastSegment sg (b .segments)) m)

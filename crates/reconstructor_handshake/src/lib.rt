@@ -3,15 +3,19 @@ use message::L3Message;
 use message::ProductId;
 use reconstructor_answers::ApplyAnswer;
 use reconstructor_checks::Checked;
+use reconstructor_counts::Counter;
 use reconstructor_segments::Segment;
 use reconstructor_segments::SegmentName;
 use reconstructor_state::BookReconstructor;
+use reconstructor_state::VenueRules;
 ghost use mathlib.Core.Path.{_≡_};
-ghost use Rattle.book.specs.Rows.{ceiling};
-ghost use Rattle.reconstructor_state.specs.State.{segmentOf};
+ghost use Prim.Native.Nat.{_≤_};
+ghost use Rattle.book.specs.Rows.{mostRows};
+ghost use Rattle.book.specs.Memory.{memory};
+ghost use Rattle.reconstructor_state.specs.State.{ceiling, segmentOf};
 ghost use Rattle.reconstructor_checks.specs.Own.{Trusted};
-ghost use Rattle.reconstructor_handshake.specs.Step.{newHandshake, stepTold, stepNumber, otherSegment, drops, stepLeaves, stepped};
-ghost use Rattle.reconstructor_handshake.specs.ByValue.{ends, appliedBy, stepWorked, stepTo, steppedTo, stepReplyOf};
+ghost use Rattle.reconstructor_handshake.specs.Step.{newHandshake, stepTold, stepNumber, otherSegment, drops, stepWorked, stepLeaves, steppedTo, stepped};
+ghost use Rattle.reconstructor_handshake.specs.Trusted.{ends, appliedBy, stepTo, stepReplyOf};
 
 // A handshake for one segment, with how many messages it applied. It hands itself back at each step.
 pub struct Handshake {
@@ -153,8 +157,8 @@ impl Handshake {
         last: Segment,
         message: L3Message,
     ) -> StepWork
-        requires { ⌜ Trusted ceiling book (now rows) ⌝ }
-        ensures { λ r. ⌜ stepWorked r (now (rows .exit)) ≡ stepTo self book (now (rows .entry)) last message ⌝ }
+        requires { ⌜ Trusted mostRows book (memory (now rows)) ⌝ }
+        ensures { λ r. ⌜ stepWorked r (memory (now (rows .exit))) ≡ stepTo self book (memory (now (rows .entry))) last message ⌝ }
     {
         if self.is_other(book) {
             return self.unchanged(book, last, StepAnswer::OtherSegment);
@@ -166,8 +170,7 @@ impl Handshake {
         }
         let product = book.product_id;
         if drops(product, last.start_seq, message) {
-            let counts = book.counts;
-            let counted = book.with_counts(counts.handshake_dropped());
+            let counted = book.counting(Counter::HandshakeDropped);
             return self.unchanged(counted, last, StepAnswer::Dropped);
         }
         let work = reconstructor::apply_trusted(book, rows, last, message);
@@ -184,7 +187,28 @@ impl Handshake {
         }
     }
 
-    // A step with the last segment's record by value, of a list of `lent` records.
+    // A step under a ceiling, with the last segment's record by value, of a list of `lent` records.
+    pub fn step_under(
+        self,
+        top: usize,
+        book: BookReconstructor,
+        rows: &mut [u64],
+        lent: usize,
+        last: Segment,
+        message: L3Message,
+    ) -> StepWork
+        requires { ⌜ top ≤ mostRows ⌝ }
+        ensures { λ r. ⌜ stepWorked r (memory (now (rows .exit))) ≡ steppedTo top self book (memory (now (rows .entry))) lent last message ⌝ }
+    {
+        match reconstructor_checks::own_checks(top, book, rows, lent) {
+            Checked::Refused(why) => {
+                self.unchanged(book, last, StepAnswer::Stepped(ApplyAnswer::Unusable(why)))
+            }
+            Checked::Passed => self.step_trusted(book, rows, last, message),
+        }
+    }
+
+    // Under our ceiling.
     pub fn step_by_value(
         self,
         book: BookReconstructor,
@@ -193,14 +217,9 @@ impl Handshake {
         last: Segment,
         message: L3Message,
     ) -> StepWork
-        ensures { λ r. ⌜ stepWorked r (now (rows .exit)) ≡ steppedTo ceiling self book (now (rows .entry)) lent last message ⌝ }
+        ensures { λ r. ⌜ stepWorked r (memory (now (rows .exit))) ≡ steppedTo ceiling self book (memory (now (rows .entry))) lent last message ⌝ }
     {
-        match reconstructor_checks::own_checks(book, rows, lent) {
-            Checked::Refused(why) => {
-                self.unchanged(book, last, StepAnswer::Stepped(ApplyAnswer::Unusable(why)))
-            }
-            Checked::Passed => self.step_trusted(book, rows, last, message),
-        }
+        self.step_under(VenueRules::CEILING, book, rows, lent, last, message)
     }
 
     // Steps one buffered message: dropped if the snapshot already has it, else `apply` decides.
@@ -211,7 +230,7 @@ impl Handshake {
         segments: &mut [Segment],
         message: L3Message,
     ) -> StepReply
-        ensures { λ r. ⌜ (stepLeaves r (now (rows .exit)) (now (segments .exit)) ≡ stepped ceiling self book (now (rows .entry)) (now (segments .entry)) message) × (stepTold (r .answer) ≡ stepTold (stepped ceiling self book (now (rows .entry)) (now (segments .entry)) message .answer)) ⌝ }
+        ensures { λ r. ⌜ (stepLeaves r (memory (now (rows .exit))) (now (segments .exit)) ≡ stepped ceiling self book (memory (now (rows .entry))) (now (segments .entry)) message) × (stepTold (r .answer) ≡ stepTold (stepped ceiling self book (memory (now (rows .entry))) (now (segments .entry)) message .answer)) ⌝ }
     {
         let count = book.segment_count();
         let last = reconstructor_segments::last_segment(segments, count);

@@ -22,7 +22,7 @@ use Rattle.reconstructor_state.specs.declared.VenueRules.{VenueRules}
 use Rattle.reconstructor_answers.specs.declared.Applied.the-variants.{BookChanged}
 use Rattle.reconstructor_plan.specs.declared.Plan.the-variants.{Reduce, Remove}
 use Rattle.reconstructor_plan.specs.Rules.{noRoom}
-use Rattle.reconstructor_plan.specs.Plans.{deedOf, cutPlan, PlanFits}
+use Rattle.reconstructor_plan.specs.Plans.{planOutcome, cutPlan, PlanFits}
 use Rattle.book.proofs.Rows.{length-rows}
 use Rattle.book.proofs.Moves.{levels-most}
 use Rattle.book.proofs.Kept.{length-line}
@@ -55,10 +55,10 @@ room-enough v ws n s p h = go (hasLevel s p (lineOf (rowsOf ws n)))
 -- ---- a row cut to r, gone at zero
 
 module _ (ws : List ℕ) (n : ℕ) (d : OrderId) (i : ℕ) (f : FoundAt ws n d i) (r : ℕ) (mark : Decrease) (k : Counter) where
-  pub cut-deed : deedOf ws n (cutPlan i r mark k) ≡ record { rows = cutRows d r mark (rowsOf ws n); counter = k; answer = BookChanged }
-  cut-deed = go (eqb r 0) refl
+  pub cut-outcome : planOutcome ws n (cutPlan i r mark k) ≡ record { orders = cutRows d r mark (rowsOf ws n); counter = k; answer = BookChanged }
+  cut-outcome = go (eqb r 0) refl
     where
-      go : (b : Bool) → eqb r 0 ≡ b → deedOf ws n (cond b (Remove i k) (Reduce i r mark k)) ≡ record { rows = cutRows d r mark (rowsOf ws n); counter = k; answer = BookChanged }
+      go : (b : Bool) → eqb r 0 ≡ b → planOutcome ws n (cond b (Remove i k) (Reduce i r mark k)) ≡ record { orders = cutRows d r mark (rowsOf ws n); counter = k; answer = BookChanged }
       go true q = let e : r ≡ 0 = eqb-true r 0 q in rw (e, f .gone mark)
       go false q = rw (f .left r mark q)
 

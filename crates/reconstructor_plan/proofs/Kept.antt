@@ -1,4 +1,4 @@
--- An accepted event keeps the rows well formed, and does to the line what its effect says.
+-- An accepted event keeps the rows well formed.
 -- Assumes nothing.
 use Prim.Native.Nat.{ℕ, _-_, _≤_, _<_}
 use mathlib.Core.Bool.{Bool, true, false, not, _&&_, cond}
@@ -24,37 +24,23 @@ use Rattle.book.specs.declared.Found.{Found}
 use Rattle.book.specs.declared.Found.the-variants.{At, Nothing}
 use Rattle.book.specs.declared.Resting.{Resting}
 use Rattle.book.specs.Line.{Entry, find, hasLevel, levels, wouldCross}
-use Rattle.book.specs.Rows.{rowAt, rowsOf, lineOf, entryOf, sideOf, findRow, cutRows, observedKind, observedRow}
+use Rattle.book.specs.Rows.{rowAt, rowsOf, lineOf, entryOf, findRow, cutRows, observedKind, observedRow}
+use Rattle.book.specs.Memory.{Effect, keep, cutTo, ordersBy}
 use Rattle.book.specs.Broken.{WellFormed}
 use Rattle.reconstructor_state.specs.declared.VenueRules.{VenueRules}
-use Rattle.reconstructor_plan.specs.Rules.{Effect, keep, join, cutTo, entryFor, openRefusal, changeRefusal, sizeRefusal, sizeGiven, doneEffect, matchEffect, changeEffect, eventRefusal, effect, eventDeed, lineBy, rowsBy}
+use Rattle.reconstructor_plan.specs.Rules.{entryFor, openRefusal, changeRefusal, sizeRefusal, sizeGiven, doneEffect, matchEffect, changeEffect, eventRefusal, effect}
 use Rattle.book.proofs.Stored.{found-at, found-none}
-use Rattle.book.proofs.Kept.{InRange, row-sound, line-append, length-line, line-cut, insert-kept, cut-kept}
+use Rattle.book.proofs.Kept.{InRange, row-sound, length-line, insert-kept, cut-kept}
+use Rattle.book.proofs.Memory.{observed-side}
 use Rattle.laws.proofs.Bools.{and-yes}
 use Rattle.message.proofs.Amounts.{in-range-most}
 use Rattle.reconstructor_state.proofs.Checks.{passed}
 
 -- ---- a joined row
 
-pub observed-side : (s : L3Side) → sideOf (observedKind s) ≡ s
-unfolding sideOf
-observed-side Buy = refl
-observed-side Sell = refl
-
 observed-small : (s : L3Side) → ltb 3 (observedKind s) ≡ false
 observed-small Buy = refl
 observed-small Sell = refl
-
--- the rules see of it what the message said
-observed-entry : (seq : ℕ) (e : Entry) → entryOf (observedRow seq e) ≡ e
-observed-entry seq e = ap (λ (s : L3Side). entryFor (e .id) s (e .price) (e .remaining)) (observed-side (e .side))
-
--- the rows after an effect stand for the line after it
-pub line-by : (seq : ℕ) (mark : Decrease) (f : Effect) (os : List Resting) → lineOf (rowsBy seq mark f os) ≡ lineBy f (lineOf os)
-line-by seq mark keep os = refl
-line-by seq mark (join e) os =
-    line-append os (observedRow seq e ∷ []) ∙ ap (λ (x : Entry). lineOf os ++ (x ∷ [])) (observed-entry seq e)
-line-by seq mark (cutTo d r) os = line-cut d r mark os
 
 room : (h : Bool) (a b : ℕ) → (not h && leb a b) ≡ false → h ≡ false → b < a
 room false a b q e = leb-false a b q
@@ -111,20 +97,20 @@ module _ (v : VenueRules) (ws : List ℕ) (n seq : ℕ) (w : WellFormed (v .«ma
   abbrev Formed : List Resting → Type 0
   Formed os = WellFormed (v .«max_orders») (v .«max_levels») os
 
-  pub event-formed : (x : L3Event) → eventInRange x ≡ true → eventRefusal v (lineOf (rowsOf ws n)) x ≡ none → Formed (eventDeed (rowsOf ws n) seq x .rows)
-  unfolding eventRefusal eventDeed effect eventInRange changeRefusal sizeRefusal
+  pub event-formed : (x : L3Event) → eventInRange x ≡ true → eventRefusal v (lineOf (rowsOf ws n)) x ≡ none → Formed (ordersBy (effect v (lineOf (rowsOf ws n)) seq x) (rowsOf ws n))
+  unfolding eventRefusal effect eventInRange changeRefusal sizeRefusal
   event-formed (Received d s) g h = w
   event-formed (Open d s p q) g h =
       let k = and-yes (inRange p) (inRange q) g in
       join-formed v (rowsOf ws n) seq d s (natOf p) (natOf q) w (in-range-most p (k .0)) (in-range-most q (k .1)) h
   event-formed (Done d s p why r) g h = go (find d (lineOf (rowsOf ws n))) refl
     where
-      go : (o : Option Entry) → find d (lineOf (rowsOf ws n)) ≡ o → Formed (rowsBy seq Unmarked (doneEffect d o) (rowsOf ws n))
+      go : (o : Option Entry) → find d (lineOf (rowsOf ws n)) ≡ o → Formed (ordersBy (doneEffect d o) (rowsOf ws n))
       go none q = w
       go (some e) q = cut-formed (v .«max_orders») (v .«max_levels») ws n d 0 Unmarked e w q (omega arith)
   event-formed (Match m t s p x) g h = go (find m (lineOf (rowsOf ws n))) refl
     where
-      go : (o : Option Entry) → find m (lineOf (rowsOf ws n)) ≡ o → Formed (rowsBy seq Unmarked (matchEffect m o (natOf x)) (rowsOf ws n))
+      go : (o : Option Entry) → find m (lineOf (rowsOf ws n)) ≡ o → Formed (ordersBy (matchEffect m o (natOf x)) (rowsOf ws n))
       go none q = w
       go (some e) q = cut-formed (v .«max_orders») (v .«max_levels») ws n m (e .remaining - natOf x) Unmarked e w q (omega arith)
   event-formed (Change d s why p oldSize newSize oldPrice newPrice funds) g h = go (find d (lineOf (rowsOf ws n))) refl h
@@ -134,11 +120,11 @@ module _ (v : VenueRules) (ws : List ℕ) (n seq : ℕ) (w : WellFormed (v .«ma
       smaller e (Given x) h = ltb-false (e .remaining) (natOf x) (passed _ _ _ (passed _ _ _ h .1) .0)
 
       go : (o : Option Entry) → find d (lineOf (rowsOf ws n)) ≡ o → changeRefusal o s why p oldSize newSize oldPrice newPrice funds ≡ none
-          → Formed (rowsBy seq (Marked seq) (changeEffect d o (sizeGiven newSize)) (rowsOf ws n))
+          → Formed (ordersBy (changeEffect seq d o (sizeGiven newSize)) (rowsOf ws n))
       go none q h = w
       go (some e) q h = noop (eqb (sizeGiven newSize) (e .remaining))
         where
-          noop : (b : Bool) → Formed (rowsBy seq (Marked seq) (cond b keep (cutTo d (sizeGiven newSize))) (rowsOf ws n))
+          noop : (b : Bool) → Formed (ordersBy (cond b keep (cutTo d (sizeGiven newSize) (Marked seq))) (rowsOf ws n))
           noop true = w
           noop false =
               cut-formed (v .«max_orders») (v .«max_levels») ws n d (sizeGiven newSize) (Marked seq) e w q

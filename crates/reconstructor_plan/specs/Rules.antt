@@ -2,7 +2,7 @@
 -- down; "venue" is docs/venue-full-channel.md.
 use Prim.Native.Nat.{ℕ, _-_}
 use mathlib.Core.Bool.{Bool, true, false, not, _&&_, _||_, cond}
-use mathlib.Core.List.{List, [], _∷_, _++_}
+use mathlib.Core.List.{List}
 use mathlib.Core.Option.{Option, none, some}
 use lib.Dec.{leb, ltb, eqb}
 use lib.IntN.{ℤ}
@@ -21,9 +21,8 @@ use Rattle.message.specs.Same.{sameSide}
 use Rattle.message.specs.Amounts.{natOf, negative, differs, givenDiffers, absentOrDiffers}
 use Rattle.book.specs.declared.Decrease.{Decrease}
 use Rattle.book.specs.declared.Decrease.the-variants.{Unmarked, Marked}
-use Rattle.book.specs.declared.Resting.{Resting}
-use Rattle.book.specs.Line.{Entry, find, rests, cut, hasLevel, levels, wouldCross}
-use Rattle.book.specs.Rows.{lineOf, cutRows, observedRow}
+use Rattle.book.specs.Line.{Entry, find, rests, hasLevel, levels, wouldCross}
+use Rattle.book.specs.Memory.{Effect, keep, join, cutTo, snapshot}
 use Rattle.reconstructor_state.specs.declared.VenueRules.{VenueRules}
 use Rattle.reconstructor_counts.specs.declared.Counter.{Counter}
 use Rattle.reconstructor_counts.specs.declared.Counter.the-variants as counters
@@ -34,12 +33,6 @@ use Rattle.reconstructor_answers.specs.declared.MalformedReason.the-variants.{F
 use Rattle.reconstructor_answers.specs.declared.Discrepancy.{Discrepancy}
 use Rattle.reconstructor_answers.specs.declared.Discrepancy.the-variants.{UnknownMaker, TakerResting, MatchMismatch, MatchExceedsRemaining, DuplicateOpen, MissingMatch, RemainingMismatch, DoneMismatch, MalformedChange, ChangeMismatch, UnsupportedModification, CrossedAfterApply, InvalidValue, CapacityExceeded, UnsupportedInput}
 use Rattle.reconstructor_state.specs.Checks.{check}
-
--- what an accepted event does to the line: nothing; an order joins the back; or the order of that id has so much left, and leaves at zero
-pub data Effect : Type 0 where
-  keep : Effect
-  join : Entry → Effect
-  cutTo : OrderId → ℕ → Effect
 
 -- ---- Open. Venue: "The part of a limit order that was not filled at once now rests on the book .. It joins the back of its price."
 
@@ -80,7 +73,7 @@ doneRefusal (some e) s p why r =
 -- "else removed"
 abbrev pub doneEffect : OrderId → Option Entry → Effect
 doneEffect d none = keep
-doneEffect d (some e) = cutTo d 0
+doneEffect d (some e) = cutTo d 0 Unmarked
 
 -- "counts off_book_done"
 abbrev pub doneCounter : Option Entry → Counter
@@ -103,10 +96,10 @@ makerRefusal (some e) s p q =
 abbrev pub matchRefusal : List Entry → OrderId → OrderId → L3Side → ℤ → ℕ → Option Discrepancy
 matchRefusal l m t s p q = check (rests t l) TakerResting (makerRefusal (find m l) s p q)
 
--- "the maker loses the size and leaves at zero"
+-- "the maker loses the size and leaves at zero .. A match never marks a decrease."
 abbrev pub matchEffect : OrderId → Option Entry → ℕ → Effect
 matchEffect d none q = keep
-matchEffect d (some e) q = cutTo d (e .remaining - q)
+matchEffect d (some e) q = cutTo d (e .remaining - q) Unmarked
 
 -- ---- Change. Venue: "Reason `STP` (self-trade prevention): size, or a market order's funds, only falls. Reason `modify_order`: a client changed
 -- the price or the size of its order"
@@ -144,10 +137,10 @@ abbrev pub sizeGiven : OptionalAmount → ℕ
 sizeGiven Absent = 0
 sizeGiven (Given x) = natOf x
 
--- "equal counts noop_change; zero removes; smaller reduces"
-abbrev pub changeEffect : OrderId → Option Entry → ℕ → Effect
-changeEffect d none r = keep
-changeEffect d (some e) r = cond (eqb r (e .remaining)) keep (cutTo d r)
+-- "equal counts noop_change; zero removes; smaller reduces and sets decreased_at", to its sequence
+abbrev pub changeEffect : ℕ → OrderId → Option Entry → ℕ → Effect
+changeEffect seq d none r = keep
+changeEffect seq d (some e) r = cond (eqb r (e .remaining)) keep (cutTo d r (Marked seq))
 
 abbrev pub changeCounter : Option Entry → ℕ → Counter
 changeCounter none r = counters.OffBookChange
@@ -164,60 +157,35 @@ eventRefusal v l (Change d s why p oldSize newSize oldPrice newPrice funds) =
     changeRefusal (find d l) s why p oldSize newSize oldPrice newPrice funds
 eventRefusal v l (Unsupported k) = some UnsupportedInput
 
--- of an accepted event; an unsupported one never is
-unfoldable pub effect : List Entry → L3Event → Effect
-effect l (Received d s) = keep
-effect l (Open d s p q) = join (entryFor d s (natOf p) (natOf q))
-effect l (Done d s p why r) = doneEffect d (find d l)
-effect l (Match m t s p q) = matchEffect m (find m l) (natOf q)
-effect l (Change d s why p oldSize newSize oldPrice newPrice funds) = changeEffect d (find d l) (sizeGiven newSize)
-effect l (Unsupported k) = keep
+-- what an accepted event does, at this sequence; an unsupported one never is accepted
+unfoldable pub effect : VenueRules → List Entry → ℕ → L3Event → Effect
+effect v l seq (Received d s) = keep
+effect v l seq (Open d s p q) = join seq (entryFor d s (natOf p) (natOf q))
+effect v l seq (Done d s p why r) = doneEffect d (find d l)
+effect v l seq (Match m t s p q) = matchEffect m (find m l) (natOf q)
+effect v l seq (Change d s why p oldSize newSize oldPrice newPrice funds) = changeEffect seq d (find d l) (sizeGiven newSize)
+effect v l seq (Unsupported k) = keep
 
-unfoldable pub counterOf : List Entry → L3Event → Counter
-counterOf l (Received d s) = counters.Received
-counterOf l (Open d s p q) = counters.Open
-counterOf l (Done d s p why r) = doneCounter (find d l)
-counterOf l (Match m t s p q) = counters.Matched
-counterOf l (Change d s why p oldSize newSize oldPrice newPrice funds) = changeCounter (find d l) (sizeGiven newSize)
-counterOf l (Unsupported k) = counters.Received
-
--- what an effect makes of the line
-abbrev pub lineBy : Effect → List Entry → List Entry
-lineBy keep l = l
-lineBy (join e) l = l ++ (e ∷ [])
-lineBy (cutTo d r) l = cut d r l
-
--- ---- what an accepted event does to the rows
-
--- "A match never marks a decrease"; a change "sets decreased_at", to its sequence
-abbrev pub markOf : ℕ → L3Event → Decrease
-markOf seq (Received d s) = Unmarked
-markOf seq (Open d s p q) = Unmarked
-markOf seq (Done d s p why r) = Unmarked
-markOf seq (Match m t s p q) = Unmarked
-markOf seq (Change d s why p oldSize newSize oldPrice newPrice funds) = Marked seq
-markOf seq (Unsupported k) = Unmarked
-
--- "Joins the back, observed, entered_at = its sequence"
-abbrev pub rowsBy : ℕ → Decrease → Effect → List Resting → List Resting
-rowsBy seq mark keep os = os
-rowsBy seq mark (join e) os = os ++ (observedRow seq e ∷ [])
-rowsBy seq mark (cutTo d r) os = cutRows d r mark os
+-- which counter it adds to
+unfoldable pub counterOf : VenueRules → List Entry → L3Event → Counter
+counterOf v l (Received d s) = counters.Received
+counterOf v l (Open d s p q) = counters.Open
+counterOf v l (Done d s p why r) = doneCounter (find d l)
+counterOf v l (Match m t s p q) = counters.Matched
+counterOf v l (Change d s why p oldSize newSize oldPrice newPrice funds) = changeCounter (find d l) (sizeGiven newSize)
+counterOf v l (Unsupported k) = counters.Received
 
 -- the Rust's Applied
 abbrev pub answerBy : Effect → Applied
 answerBy keep = NoBookEffect
-answerBy (join e) = BookChanged
-answerBy (cutTo d r) = BookChanged
+answerBy (join seq e) = BookChanged
+answerBy (cutTo d r mark) = BookChanged
+answerBy (snapshot seq es) = BookChanged
 
--- rows, counter and answer of an accepted event
+-- what an accepted event does, and where it is counted
 pub record Deed : Type 0 where
-  pub rows : List Resting
+  pub effect : Effect
   pub counter : Counter
-  pub answer : Applied
 
-abbrev pub deedBy : ℕ → Decrease → Effect → Counter → List Resting → Deed
-deedBy seq mark f k os = record { rows = rowsBy seq mark f os; counter = k; answer = answerBy f }
-
-unfoldable pub eventDeed : List Resting → ℕ → L3Event → Deed
-eventDeed os seq e = deedBy seq (markOf seq e) (effect (lineOf os) e) (counterOf (lineOf os) e) os
+unfoldable pub eventDeed : VenueRules → List Entry → ℕ → L3Event → Deed
+eventDeed v l seq e = record { effect = effect v l seq e; counter = counterOf v l e }

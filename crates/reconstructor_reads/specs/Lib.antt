@@ -1,3 +1,3 @@
-pub mod Reads
+pub mod LevelReads
 pub mod Numbers
 pub mod Said

@@ -1,20 +1,31 @@
 // The level reads: `level_queue`, `priority_profile`, `l2` of a valid book, `stale_l2` of an invalid one. Scratch and output are written only once 7 is out.
+// Each is worked `_under` a ceiling.
 use book_queue::EntryForm;
 use message::L3Side;
 use reconstructor_answers::StateError;
 use reconstructor_checks::Checked;
 use reconstructor_state::BookReconstructor;
 use reconstructor_state::Status;
+use reconstructor_state::VenueRules;
+use reconstructor_view::SequenceAnswer;
 use reconstructor_view::ViewError;
-use reconstructor_view::Viewed;
 ghost use mathlib.Core.Path.{_≡_};
 ghost use mathlib.Core.Bool.{false};
 ghost use Prim.Native.Nat.{_≤_};
 ghost use lib.ListN.{length};
-ghost use Rattle.book.specs.Rows.{Lent, ceiling, rowsOf};
+ghost use Rattle.book.specs.Rows.{Lent, mostRows};
+ghost use Rattle.book.specs.Memory.{memory, ordersOf};
 ghost use Rattle.book.specs.Broken.{someRowBroken};
-ghost use Rattle.reconstructor_reads.specs.Reads.{queueContent, levelsContent, shows, shown, readOf, leaves, levelQueue, priorityProfile, l2, leavesStale, staleL2};
+ghost use Rattle.reconstructor_state.specs.State.{ceiling};
+ghost use Rattle.reconstructor_reads.specs.LevelReads.{profileWords, l2Words, queueContent, levelsContent, shows, shown, readOf, leaves, levelQueue, priorityProfile, l2, leavesStale, staleL2};
 ghost use Rattle.reconstructor_reads.specs.Numbers.{shownTold, levelTold, staleTold};
+
+// Words of an entry: of `level_queue`, of `priority_profile`, of `l2` and `stale_l2`.
+pub const QUEUE_WORDS: usize = 5;
+
+pub const PROFILE_WORDS: usize = 3;
+
+pub const L2_WORDS: usize = 2;
 
 // How many entries were written, or 7.
 pub enum Shown {
@@ -81,10 +92,10 @@ fn show_queue(
     out: &mut [u64],
 ) -> Shown
     requires { ⌜ Lent (now rows) n × («max_orders» ≤ length (now scratch)) ⌝ }
-    ensures { λ r. ⌜ shows r (now (scratch .exit)) (now (out .exit)) ≡ shown «max_orders» (queueContent side price (rowsOf (now (rows .entry)) n)) (now (scratch .entry)) (now (out .entry)) ⌝ }
+    ensures { λ r. ⌜ shows r (now (scratch .exit)) (now (out .exit)) ≡ shown «max_orders» (queueContent side price (ordersOf (memory (now (rows .entry))) n)) (now (scratch .entry)) (now (out .entry)) ⌝ }
 {
     let count = book_queue::order_count(rows, n, side, price);
-    if out.len() < 5 * count {
+    if out.len() < QUEUE_WORDS * count {
         return Shown::OutputTooSmall;
     }
     book_queue::write_orders(rows, n, side, price, EntryForm::Queue, out);
@@ -102,10 +113,10 @@ fn show_levels(
     width: usize,
     out: &mut [u64],
 ) -> Shown
-    requires { ⌜ Lent (now rows) n × (someRowBroken (rowsOf (now rows) n) ≡ false) ⌝ }
+    requires { ⌜ Lent (now rows) n × (someRowBroken (ordersOf (memory (now rows)) n) ≡ false) ⌝ }
     requires { ⌜ (n ≤ «max_orders») × («max_orders» ≤ length (now scratch)) ⌝ }
-    requires { ⌜ (2 ≤ width) × (width ≤ 3) ⌝ }
-    ensures { λ r. ⌜ shows r (now (scratch .exit)) (now (out .exit)) ≡ shown «max_orders» (levelsContent width side (rowsOf (now (rows .entry)) n)) (now (scratch .entry)) (now (out .entry)) ⌝ }
+    requires { ⌜ (l2Words ≤ width) × (width ≤ profileWords) ⌝ }
+    ensures { λ r. ⌜ shows r (now (scratch .exit)) (now (out .exit)) ≡ shown «max_orders» (levelsContent width side (ordersOf (memory (now (rows .entry))) n)) (now (scratch .entry)) (now (out .entry)) ⌝ }
 {
     let count = book_keys::side_level_count(rows, n, side);
     if out.len() < width * count {
@@ -115,7 +126,7 @@ fn show_levels(
     Shown::Entries(count)
 }
 
-// The orders of one level in queue order, five words each: id high, id low, remaining, whether its open was observed, and where.
+// The orders of one level in queue order: id high, id low, remaining, whether its open was observed, and where.
 pub fn level_queue(
     book: BookReconstructor,
     rows: &[u64],
@@ -124,38 +135,31 @@ pub fn level_queue(
     price: i64,
     out: &mut [u64],
 ) -> LevelAnswer
-    ensures { λ r. ⌜ leaves r (now (scratch .exit)) (now (out .exit)) ≡ levelQueue ceiling book (now (rows .entry)) (now (scratch .entry)) side price (now (out .entry)) ⌝ }
-    ensures told { λ r. ⌜ levelTold r ≡ levelTold (levelQueue ceiling book (now (rows .entry)) (now (scratch .entry)) side price (now (out .entry)) .answer) ⌝ }
+    ensures { λ r. ⌜ leaves r (now (scratch .exit)) (now (out .exit)) ≡ levelQueue ceiling book (memory (now (rows .entry))) (now (scratch .entry)) side price (now (out .entry)) ⌝ }
+    ensures told { λ r. ⌜ levelTold r ≡ levelTold (levelQueue ceiling book (memory (now (rows .entry))) (now (scratch .entry)) side price (now (out .entry)) .answer) ⌝ }
 {
-    let rules = book.rules;
-    let most = rules.max_orders;
-    let at = message::amount::size_of(price);
-    match reconstructor_view::valid_book(book, rows, scratch.len() < most) {
-        Viewed::Refused(why) => LevelAnswer::Refused(why),
-        Viewed::Valid { .. } => {
-            LevelAnswer::Shown(show_queue(rows, book.rows, scratch, most, side, at, out))
-        }
-    }
+    level_queue_under(VenueRules::CEILING, book, rows, scratch, side, price, out)
 }
 
-// Shows the levels of a side of a valid book.
-fn level_read(
+pub fn level_queue_under(
+    top: usize,
     book: BookReconstructor,
     rows: &[u64],
     scratch: &mut [u64],
     side: L3Side,
-    width: usize,
+    price: i64,
     out: &mut [u64],
 ) -> LevelAnswer
-    requires { ⌜ (2 ≤ width) × (width ≤ 3) ⌝ }
-    ensures { λ r. ⌜ leaves r (now (scratch .exit)) (now (out .exit)) ≡ readOf ceiling book (now (rows .entry)) (now (scratch .entry)) (levelsContent width side (rowsOf (now (rows .entry)) (book .rows))) (now (out .entry)) ⌝ }
+    requires { ⌜ top ≤ mostRows ⌝ }
+    ensures { λ r. ⌜ leaves r (now (scratch .exit)) (now (out .exit)) ≡ levelQueue top book (memory (now (rows .entry))) (now (scratch .entry)) side price (now (out .entry)) ⌝ }
 {
     let rules = book.rules;
     let most = rules.max_orders;
-    match reconstructor_view::valid_book(book, rows, scratch.len() < most) {
-        Viewed::Refused(why) => LevelAnswer::Refused(why),
-        Viewed::Valid { .. } => {
-            LevelAnswer::Shown(show_levels(rows, book.rows, scratch, most, side, width, out))
+    let at = message::amount::size_of(price);
+    match reconstructor_view::valid_book(top, book, rows, scratch.len() < most) {
+        SequenceAnswer::Refused(why) => LevelAnswer::Refused(why),
+        SequenceAnswer::Valid { .. } => {
+            LevelAnswer::Shown(show_queue(rows, book.rows, scratch, most, side, at, out))
         }
     }
 }
@@ -168,10 +172,18 @@ pub fn priority_profile(
     side: L3Side,
     out: &mut [u64],
 ) -> LevelAnswer
-    ensures { λ r. ⌜ leaves r (now (scratch .exit)) (now (out .exit)) ≡ priorityProfile ceiling book (now (rows .entry)) (now (scratch .entry)) side (now (out .entry)) ⌝ }
-    ensures told { λ r. ⌜ levelTold r ≡ levelTold (priorityProfile ceiling book (now (rows .entry)) (now (scratch .entry)) side (now (out .entry)) .answer) ⌝ }
+    ensures { λ r. ⌜ leaves r (now (scratch .exit)) (now (out .exit)) ≡ priorityProfile ceiling book (memory (now (rows .entry))) (now (scratch .entry)) side (now (out .entry)) ⌝ }
+    ensures told { λ r. ⌜ levelTold r ≡ levelTold (priorityProfile ceiling book (memory (now (rows .entry))) (now (scratch .entry)) side (now (out .entry)) .answer) ⌝ }
 {
-    level_read(book, rows, scratch, side, 3, out)
+    levels_under(
+        VenueRules::CEILING,
+        book,
+        rows,
+        scratch,
+        side,
+        PROFILE_WORDS,
+        out,
+    )
 }
 
 // Aggregated size per price, best first.
@@ -182,10 +194,41 @@ pub fn l2(
     side: L3Side,
     out: &mut [u64],
 ) -> LevelAnswer
-    ensures { λ r. ⌜ leaves r (now (scratch .exit)) (now (out .exit)) ≡ l2 ceiling book (now (rows .entry)) (now (scratch .entry)) side (now (out .entry)) ⌝ }
-    ensures told { λ r. ⌜ levelTold r ≡ levelTold (l2 ceiling book (now (rows .entry)) (now (scratch .entry)) side (now (out .entry)) .answer) ⌝ }
+    ensures { λ r. ⌜ leaves r (now (scratch .exit)) (now (out .exit)) ≡ l2 ceiling book (memory (now (rows .entry))) (now (scratch .entry)) side (now (out .entry)) ⌝ }
+    ensures told { λ r. ⌜ levelTold r ≡ levelTold (l2 ceiling book (memory (now (rows .entry))) (now (scratch .entry)) side (now (out .entry)) .answer) ⌝ }
 {
-    level_read(book, rows, scratch, side, 2, out)
+    levels_under(
+        VenueRules::CEILING,
+        book,
+        rows,
+        scratch,
+        side,
+        L2_WORDS,
+        out,
+    )
+}
+
+// The levels of a side of a valid book, `width` words each: `priority_profile` or `l2`.
+pub fn levels_under(
+    top: usize,
+    book: BookReconstructor,
+    rows: &[u64],
+    scratch: &mut [u64],
+    side: L3Side,
+    width: usize,
+    out: &mut [u64],
+) -> LevelAnswer
+    requires { ⌜ (top ≤ mostRows) × ((l2Words ≤ width) × (width ≤ profileWords)) ⌝ }
+    ensures { λ r. ⌜ leaves r (now (scratch .exit)) (now (out .exit)) ≡ readOf top book (memory (now (rows .entry))) (now (scratch .entry)) (levelsContent width side (ordersOf (memory (now (rows .entry))) (book .rows))) (now (out .entry)) ⌝ }
+{
+    let rules = book.rules;
+    let most = rules.max_orders;
+    match reconstructor_view::valid_book(top, book, rows, scratch.len() < most) {
+        SequenceAnswer::Refused(why) => LevelAnswer::Refused(why),
+        SequenceAnswer::Valid { .. } => {
+            LevelAnswer::Shown(show_levels(rows, book.rows, scratch, most, side, width, out))
+        }
+    }
 }
 
 // The last good book's aggregated sizes while invalidated: a stale diagnostic, never a valid view.
@@ -196,12 +239,26 @@ pub fn stale_l2(
     side: L3Side,
     out: &mut [u64],
 ) -> StaleAnswer
-    ensures { λ r. ⌜ leavesStale r (now (scratch .exit)) (now (out .exit)) ≡ staleL2 ceiling book (now (rows .entry)) (now (scratch .entry)) side (now (out .entry)) ⌝ }
-    ensures told { λ r. ⌜ staleTold r ≡ staleTold (staleL2 ceiling book (now (rows .entry)) (now (scratch .entry)) side (now (out .entry)) .answer) ⌝ }
+    ensures { λ r. ⌜ leavesStale r (now (scratch .exit)) (now (out .exit)) ≡ staleL2 ceiling book (memory (now (rows .entry))) (now (scratch .entry)) side (now (out .entry)) ⌝ }
+    ensures told { λ r. ⌜ staleTold r ≡ staleTold (staleL2 ceiling book (memory (now (rows .entry))) (now (scratch .entry)) side (now (out .entry)) .answer) ⌝ }
+{
+    stale_l2_under(VenueRules::CEILING, book, rows, scratch, side, out)
+}
+
+pub fn stale_l2_under(
+    top: usize,
+    book: BookReconstructor,
+    rows: &[u64],
+    scratch: &mut [u64],
+    side: L3Side,
+    out: &mut [u64],
+) -> StaleAnswer
+    requires { ⌜ top ≤ mostRows ⌝ }
+    ensures { λ r. ⌜ leavesStale r (now (scratch .exit)) (now (out .exit)) ≡ staleL2 top book (memory (now (rows .entry))) (now (scratch .entry)) side (now (out .entry)) ⌝ }
 {
     let rules = book.rules;
     let most = rules.max_orders;
-    match reconstructor_view::read_checks(book, rows, scratch.len() < most) {
+    match reconstructor_view::read_checks(top, book, rows, scratch.len() < most) {
         Checked::Refused(why) => StaleAnswer::Unusable(why),
         Checked::Passed => {
             let status = book.status;
@@ -209,7 +266,8 @@ pub fn stale_l2(
                 Status::Empty => StaleAnswer::NotStale,
                 Status::Valid { .. } => StaleAnswer::NotStale,
                 Status::Invalidated(_) => {
-                    StaleAnswer::Shown(show_levels(rows, book.rows, scratch, most, side, 2, out))
+                    let n = book.rows;
+                    StaleAnswer::Shown(show_levels(rows, n, scratch, most, side, L2_WORDS, out))
                 }
             }
         }

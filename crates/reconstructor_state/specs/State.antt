@@ -4,7 +4,7 @@ use mathlib.Core.List.{List}
 use lib.ListN.{length}
 use Rattle.message.specs.declared.ProductId.{ProductId}
 use Rattle.book.specs.Line.{Entry}
-use Rattle.book.specs.Rows.{rowsOf, lineOf}
+use Rattle.book.specs.Memory.{Memory, Extent, extentOf, lineIn}
 use Rattle.reconstructor_state.specs.declared.SizeDecrease.the-variants.{KeepsPriority}
 use Rattle.reconstructor_state.specs.declared.VenueRules.{VenueRules}
 use Rattle.reconstructor_state.specs.declared.Status.{Status}
@@ -15,6 +15,10 @@ use Rattle.reconstructor_counts.specs.Counts.{noCounts}
 use Rattle.reconstructor_segments.specs.declared.Segment.{Segment}
 use Rattle.reconstructor_segments.specs.declared.SegmentName.{SegmentName}
 use Rattle.reconstructor_segments.specs.Segments.{lastSegment}
+
+-- 1: "an order or level limit above 4,096"
+abbrev pub ceiling : ℕ
+ceiling = 4096
 
 -- 01, Forms that change: "Limits and defaults sit with the rules' type (4,096 orders and levels ..)"
 abbrev pub limitedRules : ℕ → ℕ → VenueRules
@@ -56,21 +60,20 @@ pub record View : Type 0 where
   pub segments : ℕ
   pub line : List Entry
 
--- what a state shows of it with lent rows, the last segment's record being g; and with a lent segment list
-abbrev pub viewWith : BookReconstructor → List ℕ → Segment → View
-viewWith b ws g =
-    record { status = b .status; startSeq = g .«start_seq»; segments = b .segments; line = lineOf (rowsOf ws (b .rows)) }
+-- what a state shows of it with lent memory, the last segment's record being g; and with a lent segment list
+abbrev pub viewWith : BookReconstructor → Memory → Segment → View
+viewWith b mem g = record { status = b .status; startSeq = g .«start_seq»; segments = b .segments; line = lineIn mem (b .rows) }
 
-abbrev pub viewOf : BookReconstructor → List ℕ → List Segment → View
-viewOf b ws sg = viewWith b ws (lastSegment sg (b .segments))
+abbrev pub viewOf : BookReconstructor → Memory → List Segment → View
+viewOf b mem sg = viewWith b mem (lastSegment sg (b .segments))
 
--- the lengths of what a call is lent: words of rows, and segment records
+-- how much a call is lent: of the memory, and segment records
 pub record Lengths : Type 0 where
-  pub rows : ℕ
+  pub memory : Extent
   pub segments : ℕ
 
-abbrev pub lengthsWith : List ℕ → ℕ → Lengths
-lengthsWith ws lent = record { rows = length ws; segments = lent }
+abbrev pub lengthsWith : Memory → ℕ → Lengths
+lengthsWith mem lent = record { memory = extentOf mem; segments = lent }
 
-abbrev pub lengthsOf : List ℕ → List Segment → Lengths
-lengthsOf ws sg = lengthsWith ws (length sg)
+abbrev pub lengthsOf : Memory → List Segment → Lengths
+lengthsOf mem sg = lengthsWith mem (length sg)

@@ -2,10 +2,12 @@
 // beside it.
 use message::ProductId;
 use reconstructor_answers::Invalidation;
+use reconstructor_counts::Counter;
 use reconstructor_counts::MessageCounts;
 use reconstructor_segments::SegmentName;
 ghost use mathlib.Core.Path.{_≡_};
-ghost use Rattle.reconstructor_state.specs.State.{limitedRules, newBook, withCounts, withStatus, segmentOf};
+ghost use Rattle.reconstructor_counts.specs.Counts.{counted};
+ghost use Rattle.reconstructor_state.specs.State.{ceiling, limitedRules, newBook, withCounts, withStatus, segmentOf};
 
 // What a size decrease does to an order's place in its queue.
 pub enum SizeDecrease {
@@ -25,16 +27,14 @@ pub struct VenueRules {
 }
 
 impl VenueRules {
-    // The ceilings: a limit above them is number 1.
-    pub const MAX_ORDERS: usize = 4096;
+    // A limit above it is number 1.
+    pub const CEILING: usize = 4096;
 
-    pub const MAX_LEVELS: usize = 4096;
-
-    // The default rules, at the ceilings.
+    // The default rules, at the ceiling.
     pub fn new() -> Self
-        ensures { λ r. ⌜ r ≡ limitedRules 4096 4096 ⌝ }
+        ensures { λ r. ⌜ r ≡ limitedRules ceiling ceiling ⌝ }
     {
-        Self::with_limits(Self::MAX_ORDERS, Self::MAX_LEVELS)
+        Self::with_limits(Self::CEILING, Self::CEILING)
     }
 
     // The default rules with limits of one's own.
@@ -92,6 +92,14 @@ impl BookReconstructor {
         ensures { λ r. ⌜ r ≡ withCounts self counts ⌝ }
     {
         self.counts = counts;
+        self
+    }
+
+    // One more of what `which` names: the counts are lent, and that one is raised in place.
+    pub fn counting(mut self, which: Counter) -> Self
+        ensures { λ r. ⌜ r ≡ withCounts self (counted (self .counts) which) ⌝ }
+    {
+        reconstructor_counts::count(&mut self.counts, which);
         self
     }
 

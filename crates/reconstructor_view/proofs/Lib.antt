@@ -1,3 +1,3 @@
-pub mod View
+pub mod Readable
 pub mod ByValue
 pub mod SegmentShell

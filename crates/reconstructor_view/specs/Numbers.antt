@@ -11,8 +11,8 @@ use Rattle.reconstructor_segments.specs.declared.Segment.{Segment}
 use Rattle.reconstructor_segments.specs.Segments.{elapsed, acceptedMessages}
 use Rattle.reconstructor_view.specs.declared.ViewError.{ViewError}
 use Rattle.reconstructor_view.specs.declared.ViewError.the-variants.{Unusable, NotBootstrapped, Invalidated}
-use Rattle.reconstructor_view.specs.declared.Viewed.{Viewed}
-use Rattle.reconstructor_view.specs.declared.Viewed.the-variants as views
+use Rattle.reconstructor_view.specs.declared.SequenceAnswer.{SequenceAnswer}
+use Rattle.reconstructor_view.specs.declared.SequenceAnswer.the-variants as sequences
 use Rattle.reconstructor_view.specs.declared.BestAnswer.{BestAnswer}
 use Rattle.reconstructor_view.specs.declared.BestAnswer.the-variants as bests
 use Rattle.reconstructor_view.specs.declared.Audited.{Audited}
@@ -32,9 +32,9 @@ abbrev pub viewErrorNumber : ViewError → ℕ
 viewErrorNumber e = viewErrorTold e .number
 
 -- last_sequence: the sequence
-abbrev pub viewedTold : Viewed → Told
-viewedTold (views.Valid last) = told 0 (last ∷ [])
-viewedTold (views.Refused e) = viewErrorTold e
+abbrev pub sequenceTold : SequenceAnswer → Told
+sequenceTold (sequences.Valid last) = told 0 (last ∷ [])
+sequenceTold (sequences.Refused e) = viewErrorTold e
 
 -- best: of the buys, then of the sells, 1 and the price, or 0 and 0 where there is none
 abbrev pub present : BestPrice → ℕ

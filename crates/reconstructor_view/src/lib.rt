@@ -1,4 +1,4 @@
-// Whether a book may be read, and the reads whose answer is a value: `last_sequence`, `best`, `audit`.
+// Whether a book may be read, and the reads whose answer is a value: `last_sequence`, `best`, `audit`. `F_under` is `F` under another ceiling than the rules'.
 use book::BestPrice;
 use book_valid::AuditAnswer;
 use reconstructor_answers::Invalidation;
@@ -7,13 +7,19 @@ use reconstructor_checks::Checked;
 use reconstructor_segments::Segment;
 use reconstructor_state::BookReconstructor;
 use reconstructor_state::Status;
+use reconstructor_state::VenueRules;
 ghost use mathlib.Core.Path.{_≡_};
 ghost use mathlib.Core.Bool.{false};
-ghost use Rattle.book.specs.Rows.{ceiling};
-ghost use Rattle.reconstructor_state.specs.State.{lastOf};
+ghost use Prim.Native.Nat.{_≤_};
+ghost use Rattle.book.specs.Rows.{mostRows};
+ghost use Rattle.book.specs.Memory.{memory};
+ghost use Rattle.reconstructor_state.specs.State.{ceiling, lastOf};
 ghost use Rattle.reconstructor_checks.specs.Own.{checked};
-ghost use Rattle.reconstructor_view.specs.View.{standing, stateRead, bookView, viewed, lastSequence, bestRead, auditRead, invalidationOf, recordsTo, segmentReadTo, segmentRead};
-ghost use Rattle.reconstructor_view.specs.Numbers.{viewErrorNumber, findingNumber, viewedTold, bestTold, auditedTold, invalidationTold, segmentTold};
+ghost use Rattle.reconstructor_view.specs.ValueReads.{standing, readRefusalOf, viewRefusalOf, sequenceOf, lastSequence, bestRead, auditRead, invalidationOf, recordsTo, segmentReadTo, segmentRead};
+ghost use Rattle.reconstructor_view.specs.Numbers.{viewErrorNumber, findingNumber, sequenceTold, bestTold, auditedTold, invalidationTold, segmentTold};
+
+// The largest machine number.
+const LARGEST: usize = 18446744073709551615;
 
 // Why no valid book is available: 1, 2, 3, 15, 18.
 pub enum ViewError {
@@ -25,7 +31,7 @@ pub enum ViewError {
 }
 
 // A valid book's last sequence.
-pub enum Viewed {
+pub enum SequenceAnswer {
     Valid { last_seq: u64 },
     Refused(ViewError),
 }
@@ -87,15 +93,16 @@ impl Audited {
     }
 }
 
-// 1, 2 and 3 of a read. `short` says that the scratch it is lent, if any, is too short.
-pub fn read_checks(book: BookReconstructor, rows: &[u64], short: bool) -> Checked
-    ensures { λ r. ⌜ r ≡ checked (stateRead ceiling book (now (rows .entry)) short) ⌝ }
+// 1, 2 and 3 of a read under a ceiling. `short` says that the scratch it is lent, if any, is too short.
+pub fn read_checks(top: usize, book: BookReconstructor, rows: &[u64], short: bool) -> Checked
+    requires { ⌜ top ≤ mostRows ⌝ }
+    ensures { λ r. ⌜ r ≡ checked (readRefusalOf top book (memory (now (rows .entry))) short) ⌝ }
 {
     let rules = book.rules;
-    if reconstructor_checks::over_ceiling(rules) {
+    if reconstructor_checks::over_ceiling(top, rules) {
         return Checked::Refused(StateError::LimitAboveCeiling);
     }
-    if (rows.len() < 8 * rules.max_orders) | short {
+    if reconstructor_checks::memory_short(rules, rows) | short {
         return Checked::Refused(StateError::LentTooShort);
     }
     if reconstructor_checks::broken(book, rows) {
@@ -105,22 +112,23 @@ pub fn read_checks(book: BookReconstructor, rows: &[u64], short: bool) -> Checke
 }
 
 // 15 or 18, or the last sequence.
-fn valid_status(status: Status) -> Viewed
-    ensures { λ r. ⌜ r ≡ viewed (standing status) (lastOf status) ⌝ }
+fn valid_status(status: Status) -> SequenceAnswer
+    ensures { λ r. ⌜ r ≡ sequenceOf (standing status) (lastOf status) ⌝ }
 {
     match status {
-        Status::Empty => Viewed::Refused(ViewError::NotBootstrapped),
-        Status::Valid { last_seq } => Viewed::Valid { last_seq },
-        Status::Invalidated(invalidation) => Viewed::Refused(ViewError::Invalidated(invalidation)),
+        Status::Empty => SequenceAnswer::Refused(ViewError::NotBootstrapped),
+        Status::Valid { last_seq } => SequenceAnswer::Valid { last_seq },
+        Status::Invalidated(why) => SequenceAnswer::Refused(ViewError::Invalidated(why)),
     }
 }
 
-// The valid book's last sequence, or why there is no such book.
-pub fn valid_book(book: BookReconstructor, rows: &[u64], short: bool) -> Viewed
-    ensures { λ r. ⌜ r ≡ viewed (bookView ceiling book (now (rows .entry)) short) (lastOf (book .status)) ⌝ }
+// The valid book's last sequence, or why there is no such book. Every read of a valid book asks it first.
+pub fn valid_book(top: usize, book: BookReconstructor, rows: &[u64], short: bool) -> SequenceAnswer
+    requires { ⌜ top ≤ mostRows ⌝ }
+    ensures { λ r. ⌜ r ≡ sequenceOf (viewRefusalOf top book (memory (now (rows .entry))) short) (lastOf (book .status)) ⌝ }
 {
-    match read_checks(book, rows, short) {
-        Checked::Refused(why) => Viewed::Refused(ViewError::Unusable(why)),
+    match read_checks(top, book, rows, short) {
+        Checked::Refused(why) => SequenceAnswer::Refused(ViewError::Unusable(why)),
         Checked::Passed => {
             let status = book.status;
             valid_status(status)
@@ -129,21 +137,37 @@ pub fn valid_book(book: BookReconstructor, rows: &[u64], short: bool) -> Viewed
 }
 
 // The last sequence applied.
-pub fn last_sequence(book: BookReconstructor, rows: &[u64]) -> Viewed
-    ensures { λ r. ⌜ r ≡ lastSequence ceiling book (now (rows .entry)) ⌝ }
-    ensures told { λ r. ⌜ viewedTold r ≡ viewedTold (lastSequence ceiling book (now (rows .entry))) ⌝ }
+pub fn last_sequence(book: BookReconstructor, rows: &[u64]) -> SequenceAnswer
+    ensures { λ r. ⌜ r ≡ lastSequence ceiling book (memory (now (rows .entry))) ⌝ }
+    ensures told { λ r. ⌜ sequenceTold r ≡ sequenceTold (lastSequence ceiling book (memory (now (rows .entry)))) ⌝ }
 {
-    valid_book(book, rows, false)
+    last_sequence_under(VenueRules::CEILING, book, rows)
+}
+
+// The same under a ceiling that the code can work with.
+pub fn last_sequence_under(top: usize, book: BookReconstructor, rows: &[u64]) -> SequenceAnswer
+    requires { ⌜ top ≤ mostRows ⌝ }
+    ensures { λ r. ⌜ r ≡ lastSequence top book (memory (now (rows .entry))) ⌝ }
+{
+    valid_book(top, book, rows, false)
 }
 
 // Best bid and ask.
 pub fn best(book: BookReconstructor, rows: &[u64]) -> BestAnswer
-    ensures { λ r. ⌜ r ≡ bestRead ceiling book (now (rows .entry)) ⌝ }
-    ensures told { λ r. ⌜ bestTold r ≡ bestTold (bestRead ceiling book (now (rows .entry))) ⌝ }
+    ensures { λ r. ⌜ r ≡ bestRead ceiling book (memory (now (rows .entry))) ⌝ }
+    ensures told { λ r. ⌜ bestTold r ≡ bestTold (bestRead ceiling book (memory (now (rows .entry)))) ⌝ }
 {
-    match valid_book(book, rows, false) {
-        Viewed::Refused(why) => BestAnswer::Refused(why),
-        Viewed::Valid { .. } => {
+    best_under(VenueRules::CEILING, book, rows)
+}
+
+// The same under a ceiling that the code can work with.
+pub fn best_under(top: usize, book: BookReconstructor, rows: &[u64]) -> BestAnswer
+    requires { ⌜ top ≤ mostRows ⌝ }
+    ensures { λ r. ⌜ r ≡ bestRead top book (memory (now (rows .entry))) ⌝ }
+{
+    match valid_book(top, book, rows, false) {
+        SequenceAnswer::Refused(why) => BestAnswer::Refused(why),
+        SequenceAnswer::Valid { .. } => {
             let n = book.rows;
             BestAnswer::Prices {
                 bid: book::best_bid(rows, n),
@@ -155,12 +179,20 @@ pub fn best(book: BookReconstructor, rows: &[u64]) -> BestAnswer
 
 // The invariants of a valid book: positive sizes, each id once, not crossed. Number 3 has recomputed them, so that nothing is left to find.
 pub fn audit(book: BookReconstructor, rows: &[u64]) -> Audited
-    ensures { λ r. ⌜ r ≡ auditRead ceiling book (now (rows .entry)) ⌝ }
-    ensures told { λ r. ⌜ auditedTold r ≡ auditedTold (auditRead ceiling book (now (rows .entry))) ⌝ }
+    ensures { λ r. ⌜ r ≡ auditRead ceiling book (memory (now (rows .entry))) ⌝ }
+    ensures told { λ r. ⌜ auditedTold r ≡ auditedTold (auditRead ceiling book (memory (now (rows .entry)))) ⌝ }
 {
-    match valid_book(book, rows, false) {
-        Viewed::Refused(why) => Audited::Refused(why),
-        Viewed::Valid { .. } => Audited::Found(AuditAnswer::Ok),
+    audit_under(VenueRules::CEILING, book, rows)
+}
+
+// The same under a ceiling that the code can work with.
+pub fn audit_under(top: usize, book: BookReconstructor, rows: &[u64]) -> Audited
+    requires { ⌜ top ≤ mostRows ⌝ }
+    ensures { λ r. ⌜ r ≡ auditRead top book (memory (now (rows .entry))) ⌝ }
+{
+    match valid_book(top, book, rows, false) {
+        SequenceAnswer::Refused(why) => Audited::Refused(why),
+        SequenceAnswer::Valid { .. } => Audited::Found(AuditAnswer::Ok),
     }
 }
 
@@ -181,7 +213,7 @@ pub fn invalidation(book: BookReconstructor) -> InvalidationAnswer
 fn records_to(place: usize) -> usize
     ensures { λ r. ⌜ r ≡ recordsTo place ⌝ }
 {
-    if place < 18446744073709551615 {
+    if place < LARGEST {
         return place + 1;
     }
     place

@@ -1,5 +1,6 @@
 use borrow.Author.Needs.{needs}
 use Rattle.book.specs.Rows.{rowsOf}
+use Rattle.book.specs.Memory.{memory}
 use Rattle.book_index.proofs.Index.{unindexed}
 use Rattle.reconstructor_checks.proofs.Own.{sound}
 use Rattle.reconstructor.proofs.Laws.{trusted-ready}
@@ -10,7 +11,7 @@ apply-indexed-requires : tie.Need-apply-indexed-requires
 apply-indexed-requires c κs =
     let k-start = c .before .before .before .before in
     let a = k-start .args in
-    (trusted-ready (a .book) (a .rows .now) (k-start .pre), rw (c .none .ensures) (unindexed (rowsOf (a .rows .now) (a .book .rows)) (sound (a .book) (a .rows .now) (k-start .pre .sound) .formed .single)))
+    (trusted-ready (a .book) (memory (a .rows .now)) (k-start .pre), rw (c .none .ensures) (unindexed (rowsOf (a .rows .now) (a .book .rows)) (sound (a .book) (memory (a .rows .now)) (k-start .pre .sound) .formed .single)))
 
 pub apply-trusted-spec : {M : Type 1} → statement M
 apply-trusted-spec =

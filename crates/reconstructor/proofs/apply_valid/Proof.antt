@@ -1,7 +1,9 @@
 use mathlib.Core.Path.{_∙_, ap}
 use borrow.Author.Needs.{needs}
 use Rattle.reconstructor.specs.declared.Reply.{Reply}
-use Rattle.reconstructor.specs.Applied.{settled, accepted, core}
+use Rattle.reconstructor.specs.Applied.{accepted, decided, core}
+use Rattle.reconstructor.specs.Steps.{committed}
+use Rattle.book.specs.Memory.{memory}
 use Rattle.reconstructor.proofs.apply_valid.Statement.{statement}
 use Rattle.reconstructor.proofs.apply_valid.Tie as tie
 
@@ -12,23 +14,23 @@ commit-requires c κs =
     (k-start .pre .0, (rw (c .before .before .plan .given .1) at (k-take-turn .take-turn .ensures)) .2)
 
 returns : tie.Need-returns
-unfolding settled
+unfolding decided accepted committed
 returns c =
     let k-plan = c .before .before .before .before .before in
     let k-take-turn = k-plan .before .before in
     let k-start = k-take-turn .before .before .before .before in
     let a = k-start .args in
     let h = rw (k-plan .plan .given .1) at (k-take-turn .take-turn .ensures) in
-    rw (h .0) (c .before .before .commit .ensures ∙ ap (accepted (a .book) (a .rows .now) (a .message .sequence)) (h .1))
+    rw (h .0) (c .before .before .commit .ensures ∙ ap (committed (a .book) (a .rows .now) (a .message .sequence)) (h .1))
 
 returns-2 : tie.Need-returns-2
-unfolding settled
+unfolding decided
 returns-2 c =
     let k-take-turn = c .before .before .before .before in
     let k-start = k-take-turn .before .before .before .before in
     let a = k-start .args in
     let h = rw (c .before .before .kind .given .1) at (k-take-turn .take-turn .ensures) in
-    rw h (ap (λ (r : Reply). core r (a .rows .now)) (c .invalidated .ensures))
+    rw h (ap (λ (r : Reply). core r (memory (a .rows .now))) (c .invalidated .ensures))
 
 pub apply-valid-spec : {M : Type 1} → statement M
 apply-valid-spec =

@@ -17,7 +17,7 @@ returns-3 c = rw (c .enum-told3 .given .1)
 
 returns-4 : tie.Need-returns-4
 unfolding refusedReply
-returns-4 c = rw (c .with-counts .ensures, c .before .wrong-product .ensures, c .before .before .enum-told4 .given .1)
+returns-4 c = rw (c .counting .ensures, c .before .enum-told4 .given .1)
 
 returns-5 : tie.Need-returns-5
 unfolding refusedReply
@@ -29,7 +29,7 @@ returns-6 c = rw (c .enum-told6 .given .1)
 
 returns-7 : tie.Need-returns-7
 unfolding refusedReply
-returns-7 c = rw (c .with-counts2 .ensures, c .before .skipped-while-invalid .ensures, c .before .before .enum-told7 .given .1)
+returns-7 c = rw (c .counting2 .ensures, c .before .enum-told7 .given .1)
 
 pub refused-spec : {M : Type 1} → statement M
 refused-spec =
@@ -40,11 +40,9 @@ refused-spec =
     (λ c. search needs)
     (λ c. search needs)
     (λ c κs. search needs)
-    (λ c κs. search needs)
     (λ c. search needs)
     (λ c. search needs)
     (λ c. search needs)
-    (λ c κs. search needs)
     (λ c κs. search needs)
     returns
     returns-2

@@ -2,6 +2,7 @@ use mathlib.Core.Path.{refl, sym, ap, _∙_}
 use mathlib.Core.List.{map}
 use borrow.Author.Needs.{needs}
 use Rattle.book.specs.Rows.{stored, snapshotRow}
+use Rattle.book.specs.Memory.{memory}
 use Rattle.reconstructor_bootstrap.specs.Bootstrap.{bootedBook}
 use Rattle.reconstructor_bootstrap.proofs.Places.{line-places}
 use Rattle.reconstructor_bootstrap.proofs.Whole.{booted-path, length-snapshot}
@@ -15,7 +16,7 @@ returns c =
     let k-booted = k-store-rows .before .before in
     let a = k-booted .before .before .before .before .args in
     booted-path refl (k-booted .booted-book .ensures ∙ ap (bootedBook (a .book) (a .snapshot .sequence)) (sym (length-snapshot (a .snapshot) (a .bytes .now))))
-    (k-store-rows .store-rows .ensures ∙ ap (λ l. stored (a .rows .now) (a .book .rows) (map (snapshotRow (a .snapshot .sequence)) l)) (sym (line-places (a .snapshot) (a .bytes .now))))
+    (ap memory (k-store-rows .store-rows .ensures ∙ ap (λ l. stored (a .rows .now) (a .book .rows) (map (snapshotRow (a .snapshot .sequence)) l)) (sym (line-places (a .snapshot) (a .bytes .now)))))
     (k-close-last .close-last .ensures) refl (c .started .ensures)
 
 pub accept-spec : {M : Type 1} → statement M

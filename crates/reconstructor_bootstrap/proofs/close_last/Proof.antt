@@ -1,18 +1,18 @@
 use borrow.Author.Needs.{needs}
-use Rattle.reconstructor_bootstrap.specs.ByValue.{closedTo}
+use Rattle.reconstructor_bootstrap.specs.Bootstrap.{closed}
 use Rattle.reconstructor_bootstrap.proofs.close_last.Statement.{statement}
 use Rattle.reconstructor_bootstrap.proofs.close_last.Tie as tie
 
 returns : tie.Need-returns
-unfolding closedTo
+unfolding closed
 returns c = rw (c .enum-told .given .1)
 
 returns-2 : tie.Need-returns-2
-unfolding closedTo
+unfolding closed
 returns-2 c = rw (c .superseded .ensures, c .before .enum-told2 .given .1)
 
 returns-3 : tie.Need-returns-3
-unfolding closedTo
+unfolding closed
 returns-3 c = rw (c .enum-told3 .given .1)
 
 pub close-last-spec : {M : Type 1} → statement M

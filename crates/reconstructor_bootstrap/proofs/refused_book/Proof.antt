@@ -18,7 +18,7 @@ returns-5 : tie.Need-returns-5
 returns-5 c = rw (c .enum-told5 .given .1)
 
 returns-6 : tie.Need-returns-6
-returns-6 c = rw (c .with-counts .ensures, c .before .rejected-snapshot .ensures, c .before .before .before .enum-told6 .given .1)
+returns-6 c = rw (c .counting .ensures, c .before .enum-told6 .given .1)
 
 pub refused-book-spec : {M : Type 1} → statement M
 refused-book-spec =
@@ -30,7 +30,6 @@ refused-book-spec =
     (λ c. search needs)
     (λ c. search needs)
     (λ c. search needs)
-    (λ c κs. search needs)
     (λ c κs. search needs)
     returns
     returns-2

@@ -2,7 +2,8 @@ use native.Mathlib.Omega.{arith}
 use borrow.Author.Tests.{lt-ltb, le-ltb}
 use borrow.Author.Needs.{needs}
 use Rattle.reconstructor_checks.specs.Own.{broken}
-use Rattle.reconstructor_checks.proofs.Own.{words-rows}
+use Rattle.book.specs.Memory.{memory}
+use Rattle.reconstructor_checks.proofs.Own.{memory-room, words-rows}
 use Rattle.reconstructor_checks.proofs.broken.Statement.{statement}
 use Rattle.reconstructor_checks.proofs.broken.Tie as tie
 
@@ -14,6 +15,7 @@ returns-2 : tie.Need-returns-2
 unfolding broken
 returns-2 c =
     let k-start = c .before .before .before .before .before .before in
+    let r = memory-room (k-start .args .book .rules) (memory (k-start .args .rows .now)) (k-start .pre .0) in
     let w = words-rows (k-start .args .book .rules .«max_levels») (k-start .args .rows .now) (k-start .args .book .rows) (omega arith) (omega arith) in
     rw (le-ltb _ _ (c .before .before .if1 .left), ← w, ← c .before .rows-broken .ensures, c .if2 .taken)
 
@@ -22,6 +24,7 @@ unfolding broken
 returns-3 c =
     let k-if1 = c .before .before .before in
     let k-start = k-if1 .before .before .before .before in
+    let r = memory-room (k-start .args .book .rules) (memory (k-start .args .rows .now)) (k-start .pre .0) in
     let w = words-rows (k-start .args .book .rules .«max_levels») (k-start .args .rows .now) (k-start .args .book .rows) (omega arith) (omega arith) in
     rw (le-ltb _ _ (k-if1 .if1 .left), ← w, ← c .before .before .rows-broken .ensures, c .before .if2 .left) (c .unsettled .ensures)
 

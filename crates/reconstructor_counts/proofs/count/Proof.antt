@@ -1,4 +1,4 @@
--- `count` meets its contract: a walk of its MIR, by hand. The borrow is opened; by cases on the counter one field is read, passed to `saturating_next` and stored to; and the borrow is closed at the counts with that field changed.
+-- `count` meets its contract: a walk of its MIR, written by tools/walks/count.py. The borrow is opened; by cases on the counter one field is read, passed to `saturating_next` and stored to; and the borrow is closed at the counts with that field changed.
 -- Assumes nothing.
 use mathlib.Core.Path.{_≡_, refl, sym, _∙_, ap, subst}
 use Prim.Native.Nat.{ℕ, _<_, _^_}
@@ -48,7 +48,7 @@ use denote.Exit.{yes}
 use Rattle.reconstructor_counts.specs.Counts.{saturated, countedAt, placeOf, counted}
 use Rattle.reconstructor_counts.specs.declared.MessageCounts.{MessageCounts}
 use Rattle.reconstructor_counts.specs.declared.Counter.{Counter}
-use Rattle.reconstructor_counts.specs.declared.Counter.the-variants.{Received, Open, Done, Matched, Stp, OffBookDone, OffBookChange, NoopChange}
+use Rattle.reconstructor_counts.specs.declared.Counter.the-variants.{Received, Open, Done, Matched, Stp, OffBookDone, OffBookChange, NoopChange, HandshakeDropped, SkippedWhileInvalid, WrongProduct, RejectedSnapshots}
 use Rattle.reconstructor_counts.proofs.Values.{R, K, counts-val, counter-val, counts-made, counter-made, counter-lawful}
 use Rattle.reconstructor_counts.proofs.MessageCounts as T
 use Rattle.reconstructor_counts.proofs.MessageCounts.Laws as T′
@@ -92,6 +92,10 @@ place-of Stp = refl
 place-of OffBookDone = refl
 place-of OffBookChange = refl
 place-of NoopChange = refl
+place-of HandshakeDropped = refl
+place-of SkippedWhileInvalid = refl
+place-of WrongProduct = refl
+place-of RejectedSnapshots = refl
 
 counted-by : (h : MessageCounts) (k : Counter) (n : ℕ) → tagOf K′.the-type k ≡ n → countedAt n h ≡ counted h k
 counted-by h k n e = ap (λ (m : ℕ). countedAt m h) (sym e ∙ place-of k)
@@ -144,9 +148,9 @@ module _ {M : Type 1} (𝓤 : URA M) (H : Heap 𝓤) (A : Atoms 𝓤) (W : Given
       feqI ! (List Val) (vunit ∷ []) (vunit ∷ []) refl $ move ! (1 ∷ 0 ∷ []) $ done !
 
   module _ (C : Calls 𝓤 H) (Λ : Loops 𝓤 H) (fm : FmC 𝓤 H (W .laws) C) (known : Triple 𝓤 (C #next) (Next 𝓤 H A at-mem run)) where
-    module _ (l₀ l₁ l₂ l₃ l₄ l₅ l₆ l₇ l₈ l₉ l₁₀ l₁₁ l₁₂ l₁₃ l₁₄ l₁₅ l₁₆ l₁₇ l₁₈ : ℕ) (was : Is R h (counts-val h ∷ [])) where
+    module _ (l₀ l₁ l₂ l₃ l₄ l₅ l₆ l₇ l₈ l₉ l₁₀ l₁₁ l₁₂ l₁₃ l₁₄ l₁₅ l₁₆ l₁₇ l₁₈ l₁₉ l₂₀ l₂₁ l₂₂ l₂₃ l₂₄ l₂₅ l₂₆ : ℕ) (was : Is R h (counts-val h ∷ [])) where
       abbrev E : Env 𝓤 H
-      E = zip the-mir.locals (l₀ ∷ l₁ ∷ l₂ ∷ l₃ ∷ l₄ ∷ l₅ ∷ l₆ ∷ l₇ ∷ l₈ ∷ l₉ ∷ l₁₀ ∷ l₁₁ ∷ l₁₂ ∷ l₁₃ ∷ l₁₄ ∷ l₁₅ ∷ l₁₆ ∷ l₁₇ ∷ l₁₈ ∷ [])
+      E = zip the-mir.locals (l₀ ∷ l₁ ∷ l₂ ∷ l₃ ∷ l₄ ∷ l₅ ∷ l₆ ∷ l₇ ∷ l₈ ∷ l₉ ∷ l₁₀ ∷ l₁₁ ∷ l₁₂ ∷ l₁₃ ∷ l₁₄ ∷ l₁₅ ∷ l₁₆ ∷ l₁₇ ∷ l₁₈ ∷ l₁₉ ∷ l₂₀ ∷ l₂₁ ∷ l₂₂ ∷ l₂₃ ∷ l₂₄ ∷ l₂₅ ∷ l₂₆ ∷ [])
 
       -- the numbers' locals, the last first, and those of the parameters and of the result
       abbrev slots : List ℕ → List (Item 𝓤) → List (Item 𝓤)
@@ -162,7 +166,14 @@ module _ {M : Type 1} (𝓤 : URA M) (H : Heap 𝓤) (A : Atoms 𝓤) (W : Given
       abbrev Opened : Val → List (Item 𝓤)
       Opened v =
           ‵ (cellAt fullShare (R .mir) (v ∷ []) b o) ∷ ‵ (fobor κ q (Body (mem R) b o γ)) ∷ ‵ (fobs γ (R .coded .code h)) ∷ ‵ (fauth γ (R .coded .code h)) ∷
-          slots (l₁₈ ∷ l₁₇ ∷ l₁₆ ∷ l₁₅ ∷ l₁₄ ∷ l₁₃ ∷ l₁₂ ∷ l₁₁ ∷ l₁₀ ∷ l₉ ∷ l₈ ∷ l₇ ∷ l₆ ∷ l₅ ∷ l₄ ∷ l₃ ∷ []) Args
+          slots (l₂₆ ∷ l₂₅ ∷ l₂₄ ∷ l₂₃ ∷ l₂₂ ∷ l₂₁ ∷ l₂₀ ∷ l₁₉ ∷ l₁₈ ∷ l₁₇ ∷ l₁₆ ∷ l₁₅ ∷ l₁₄ ∷ l₁₃ ∷ l₁₂ ∷ l₁₁ ∷ l₁₀ ∷ l₉ ∷ l₈ ∷ l₇ ∷ l₆ ∷ l₅ ∷ l₄ ∷ l₃ ∷ []) Args
+
+      -- the call of `saturating_next` at a count
+      abbrev Nexts : Contract 𝓤
+      Nexts = Next 𝓤 H A at-mem run
+
+      abbrev sent : ℕ → Nexts .Ghost
+      sent n = to-next 𝓤 H A at-mem run W n
 
       -- what is to hold where an arm ends
       abbrev Then : Kit.Post 𝓤 H
@@ -170,109 +181,163 @@ module _ {M : Type 1} (𝓤 : URA M) (H : Heap 𝓤) (A : Atoms 𝓤) (W : Given
 
       leaves : (r : MessageCounts) → r ≡ counted h k → Is R r (counts-val r ∷ []) → Sq W (Opened (counts-val r)) (prop (Wp 𝓤 H C Λ E the-mir.t-2 (atReturn 𝓤 H E Post)))
       leaves r eq is-r =
-          exec ! C Λ E the-mir.t-2 (atRet E Post) $ assigns ! (of-opd ! (unit-lit !)) (from ! (stop !)) (init ! 40 refl (tt, tt)) $
+          exec ! C Λ E the-mir.t-2 (atRet E Post) $ assigns ! (of-opd ! (unit-lit !)) (from ! (stop !)) (init ! 56 refl (tt, tt)) $
           owned ! R (Is R) (counts-made 𝓤 H A) r _ is-r $ move ! (1 ∷ 0 ∷ []) $ closes ! tt R r (counts-val r ∷ []) b o $
-          returns ! (look ! 39 refl) $ forget ! 35 refl $ forget ! 37 refl $ forget ! 39 refl $
-          move ! (39 ∷ 40 ∷ []) $ free1 ! $ move ! (37 ∷ 38 ∷ []) $ free1 ! $ move ! (35 ∷ 36 ∷ []) $ free1 ! $ move ! (33 ∷ 34 ∷ []) $ free1 ! $ move ! (31 ∷ 32 ∷ []) $ free1 ! $
-          move ! (29 ∷ 30 ∷ []) $ free1 ! $ move ! (27 ∷ 28 ∷ []) $ free1 ! $ move ! (25 ∷ 26 ∷ []) $ free1 ! $ move ! (23 ∷ 24 ∷ []) $ free1 ! $ move ! (21 ∷ 22 ∷ []) $ free1 ! $
-          move ! (19 ∷ 20 ∷ []) $ free1 ! $ move ! (17 ∷ 18 ∷ []) $ free1 ! $ move ! (15 ∷ 16 ∷ []) $ free1 ! $ move ! (13 ∷ 14 ∷ []) $ free1 ! $ move ! (11 ∷ 12 ∷ []) $ free1 ! $
-          move ! (9 ∷ 10 ∷ []) $ free1 ! $ move ! (7 ∷ 8 ∷ []) $ free1 ! $ move ! (5 ∷ 6 ∷ []) $ free1 ! $ move ! (3 ∷ 4 ∷ []) $ free1 ! $
+          returns ! (look ! 55 refl) $ forget ! 51 refl $ forget ! 53 refl $ forget ! 55 refl $
+          move ! (55 ∷ 56 ∷ []) $ free1 ! $ move ! (53 ∷ 54 ∷ []) $ free1 ! $ move ! (51 ∷ 52 ∷ []) $ free1 ! $ move ! (49 ∷ 50 ∷ []) $ free1 ! $ move ! (47 ∷ 48 ∷ []) $ free1 ! $ move ! (45 ∷ 46 ∷ []) $ free1 ! $
+          move ! (43 ∷ 44 ∷ []) $ free1 ! $ move ! (41 ∷ 42 ∷ []) $ free1 ! $ move ! (39 ∷ 40 ∷ []) $ free1 ! $ move ! (37 ∷ 38 ∷ []) $ free1 ! $ move ! (35 ∷ 36 ∷ []) $ free1 ! $ move ! (33 ∷ 34 ∷ []) $ free1 ! $
+          move ! (31 ∷ 32 ∷ []) $ free1 ! $ move ! (29 ∷ 30 ∷ []) $ free1 ! $ move ! (27 ∷ 28 ∷ []) $ free1 ! $ move ! (25 ∷ 26 ∷ []) $ free1 ! $ move ! (23 ∷ 24 ∷ []) $ free1 ! $ move ! (21 ∷ 22 ∷ []) $ free1 ! $
+          move ! (19 ∷ 20 ∷ []) $ free1 ! $ move ! (17 ∷ 18 ∷ []) $ free1 ! $ move ! (15 ∷ 16 ∷ []) $ free1 ! $ move ! (13 ∷ 14 ∷ []) $ free1 ! $ move ! (11 ∷ 12 ∷ []) $ free1 ! $ move ! (9 ∷ 10 ∷ []) $ free1 ! $
+          move ! (7 ∷ 8 ∷ []) $ free1 ! $ move ! (5 ∷ 6 ∷ []) $ free1 ! $ move ! (3 ∷ 4 ∷ []) $ free1 ! $
           free0 ! $ keep ! (0 ∷ 1 ∷ 2 ∷ []) $ by ! (exits r eq)
 
       arm-0 : tagOf K′.the-type k ≡ 0 → Sq W (Opened (counts-val h)) (runs C Λ E (arm-of 0 4 3) Then)
       arm-0 e =
-          assigns ! (of-opd ! (load ! (from ! (hop ! (look ! 38 refl) (fld ! refl (stop !)))) (look-in ! 0 (sub ! 0 refl (whole !))))) (from ! (stop !)) (init ! 32 refl (tt, record { fits = all-of h was .0 .1 })) $
-          nothing ! $ use1 W (raw (Next 𝓤 H A at-mem run .pre (to-next 𝓤 H A at-mem run W (h .received)))) (goes-next 𝓤 H A at-mem run W (h .received) (all-of h was .0 .1)) $
-          calls-at ! fm (Next 𝓤 H A at-mem run) known (to-next 𝓤 H A at-mem run W (h .received)) (and-then ! (load ! (from ! (stop !)) (look ! 33 refl)) (no-more !)) (λ v.
+          assigns ! (of-opd ! (load ! (from ! (hop ! (look ! 54 refl) (fld ! refl (stop !)))) (look-in ! 0 (sub ! 0 refl (whole !))))) (from ! (stop !)) (init ! 48 refl (tt, record { fits = all-of h was .0 .1 })) $
+          nothing ! $ use1 W (raw (Nexts .pre (sent (h .received)))) (goes-next 𝓤 H A at-mem run W (h .received) (all-of h was .0 .1)) $
+          calls-at ! fm Nexts known (sent (h .received)) (and-then ! (load ! (from ! (stop !)) (look ! 49 refl)) (no-more !)) (λ v.
           use1 W (later (given (Is-next 𝓤 H A at-mem run W (h .received) v) (‵ ftrue))) (gives 𝓤 H A at-mem run W (h .received) v) $ await ! tt $ learn ! (λ u. drop ! $
-          land ! (from ! (stop !)) (init ! 34 refl (typed _ v u)) $ rewrite ! 34 (λ (y : Val). ‵ (fat fullShare (tyInt w64) l₃ 0 y)) (u .0) refl $
-          assigns-last ! (of-opd ! (load ! (from ! (stop !)) (look ! 34 refl))) (from ! (hop ! (look ! 38 refl) (fld ! refl (stop !)))) (store-in ! 0 (sub ! 0 refl (whole !)) (tt, record { fits = u .1 })) $
-          forget ! 32 refl $ forget ! 34 refl $ leaves (countedAt 0 h) (counted-by h k 0 e) (LL.owes T.the-type T′.the-laws (countedAt 0 h) ((refl, u .1), all-of h was .1))))
+          land ! (from ! (stop !)) (init ! 50 refl (typed _ v u)) $ rewrite ! 50 (λ (y : Val). ‵ (fat fullShare (tyInt w64) l₃ 0 y)) (u .0) refl $
+          assigns-last ! (of-opd ! (load ! (from ! (stop !)) (look ! 50 refl))) (from ! (hop ! (look ! 54 refl) (fld ! refl (stop !)))) (store-in ! 0 (sub ! 0 refl (whole !)) (tt, record { fits = u .1 })) $
+          forget ! 48 refl $ forget ! 50 refl $
+          leaves (countedAt 0 h) (counted-by h k 0 e) (LL.owes T.the-type T′.the-laws (countedAt 0 h) (((refl, u .1), all-of h was .1)))))
 
       arm-1 : tagOf K′.the-type k ≡ 1 → Sq W (Opened (counts-val h)) (runs C Λ E (arm-of 1 6 5) Then)
       arm-1 e =
-          assigns ! (of-opd ! (load ! (from ! (hop ! (look ! 38 refl) (fld ! refl (stop !)))) (look-in ! 0 (sub ! 1 refl (whole !))))) (from ! (stop !)) (init ! 28 refl (tt, record { fits = all-of h was .1 .0 .1 })) $
-          nothing ! $ use1 W (raw (Next 𝓤 H A at-mem run .pre (to-next 𝓤 H A at-mem run W (h .«open»)))) (goes-next 𝓤 H A at-mem run W (h .«open») (all-of h was .1 .0 .1)) $
-          calls-at ! fm (Next 𝓤 H A at-mem run) known (to-next 𝓤 H A at-mem run W (h .«open»)) (and-then ! (load ! (from ! (stop !)) (look ! 29 refl)) (no-more !)) (λ v.
+          assigns ! (of-opd ! (load ! (from ! (hop ! (look ! 54 refl) (fld ! refl (stop !)))) (look-in ! 0 (sub ! 1 refl (whole !))))) (from ! (stop !)) (init ! 44 refl (tt, record { fits = all-of h was .1 .0 .1 })) $
+          nothing ! $ use1 W (raw (Nexts .pre (sent (h .«open»)))) (goes-next 𝓤 H A at-mem run W (h .«open») (all-of h was .1 .0 .1)) $
+          calls-at ! fm Nexts known (sent (h .«open»)) (and-then ! (load ! (from ! (stop !)) (look ! 45 refl)) (no-more !)) (λ v.
           use1 W (later (given (Is-next 𝓤 H A at-mem run W (h .«open») v) (‵ ftrue))) (gives 𝓤 H A at-mem run W (h .«open») v) $ await ! tt $ learn ! (λ u. drop ! $
-          land ! (from ! (stop !)) (init ! 30 refl (typed _ v u)) $ rewrite ! 30 (λ (y : Val). ‵ (fat fullShare (tyInt w64) l₅ 0 y)) (u .0) refl $
-          assigns-last ! (of-opd ! (load ! (from ! (stop !)) (look ! 30 refl))) (from ! (hop ! (look ! 38 refl) (fld ! refl (stop !)))) (store-in ! 0 (sub ! 1 refl (whole !)) (tt, record { fits = u .1 })) $
-          forget ! 28 refl $ forget ! 30 refl $ leaves (countedAt 1 h) (counted-by h k 1 e) (LL.owes T.the-type T′.the-laws (countedAt 1 h) (all-of h was .0, ((refl, u .1), all-of h was .1 .1)))))
+          land ! (from ! (stop !)) (init ! 46 refl (typed _ v u)) $ rewrite ! 46 (λ (y : Val). ‵ (fat fullShare (tyInt w64) l₅ 0 y)) (u .0) refl $
+          assigns-last ! (of-opd ! (load ! (from ! (stop !)) (look ! 46 refl))) (from ! (hop ! (look ! 54 refl) (fld ! refl (stop !)))) (store-in ! 0 (sub ! 1 refl (whole !)) (tt, record { fits = u .1 })) $
+          forget ! 44 refl $ forget ! 46 refl $
+          leaves (countedAt 1 h) (counted-by h k 1 e) (LL.owes T.the-type T′.the-laws (countedAt 1 h) ((all-of h was .0, ((refl, u .1), all-of h was .1 .1))))))
 
       arm-2 : tagOf K′.the-type k ≡ 2 → Sq W (Opened (counts-val h)) (runs C Λ E (arm-of 2 8 7) Then)
       arm-2 e =
-          assigns ! (of-opd ! (load ! (from ! (hop ! (look ! 38 refl) (fld ! refl (stop !)))) (look-in ! 0 (sub ! 2 refl (whole !))))) (from ! (stop !)) (init ! 24 refl (tt, record { fits = all-of h was .1 .1 .0 .1 })) $
-          nothing ! $ use1 W (raw (Next 𝓤 H A at-mem run .pre (to-next 𝓤 H A at-mem run W (h .done)))) (goes-next 𝓤 H A at-mem run W (h .done) (all-of h was .1 .1 .0 .1)) $
-          calls-at ! fm (Next 𝓤 H A at-mem run) known (to-next 𝓤 H A at-mem run W (h .done)) (and-then ! (load ! (from ! (stop !)) (look ! 25 refl)) (no-more !)) (λ v.
+          assigns ! (of-opd ! (load ! (from ! (hop ! (look ! 54 refl) (fld ! refl (stop !)))) (look-in ! 0 (sub ! 2 refl (whole !))))) (from ! (stop !)) (init ! 40 refl (tt, record { fits = all-of h was .1 .1 .0 .1 })) $
+          nothing ! $ use1 W (raw (Nexts .pre (sent (h .done)))) (goes-next 𝓤 H A at-mem run W (h .done) (all-of h was .1 .1 .0 .1)) $
+          calls-at ! fm Nexts known (sent (h .done)) (and-then ! (load ! (from ! (stop !)) (look ! 41 refl)) (no-more !)) (λ v.
           use1 W (later (given (Is-next 𝓤 H A at-mem run W (h .done) v) (‵ ftrue))) (gives 𝓤 H A at-mem run W (h .done) v) $ await ! tt $ learn ! (λ u. drop ! $
-          land ! (from ! (stop !)) (init ! 26 refl (typed _ v u)) $ rewrite ! 26 (λ (y : Val). ‵ (fat fullShare (tyInt w64) l₇ 0 y)) (u .0) refl $
-          assigns-last ! (of-opd ! (load ! (from ! (stop !)) (look ! 26 refl))) (from ! (hop ! (look ! 38 refl) (fld ! refl (stop !)))) (store-in ! 0 (sub ! 2 refl (whole !)) (tt, record { fits = u .1 })) $
-          forget ! 24 refl $ forget ! 26 refl $ leaves (countedAt 2 h) (counted-by h k 2 e) (LL.owes T.the-type T′.the-laws (countedAt 2 h) (all-of h was .0, (all-of h was .1 .0, ((refl, u .1), all-of h was .1 .1 .1))))))
+          land ! (from ! (stop !)) (init ! 42 refl (typed _ v u)) $ rewrite ! 42 (λ (y : Val). ‵ (fat fullShare (tyInt w64) l₇ 0 y)) (u .0) refl $
+          assigns-last ! (of-opd ! (load ! (from ! (stop !)) (look ! 42 refl))) (from ! (hop ! (look ! 54 refl) (fld ! refl (stop !)))) (store-in ! 0 (sub ! 2 refl (whole !)) (tt, record { fits = u .1 })) $
+          forget ! 40 refl $ forget ! 42 refl $
+          leaves (countedAt 2 h) (counted-by h k 2 e) (LL.owes T.the-type T′.the-laws (countedAt 2 h) ((all-of h was .0, (all-of h was .1 .0, ((refl, u .1), all-of h was .1 .1 .1)))))))
 
       arm-3 : tagOf K′.the-type k ≡ 3 → Sq W (Opened (counts-val h)) (runs C Λ E (arm-of 3 10 9) Then)
       arm-3 e =
-          assigns ! (of-opd ! (load ! (from ! (hop ! (look ! 38 refl) (fld ! refl (stop !)))) (look-in ! 0 (sub ! 3 refl (whole !))))) (from ! (stop !)) (init ! 20 refl (tt, record { fits = all-of h was .1 .1 .1 .0 .1 })) $
-          nothing ! $ use1 W (raw (Next 𝓤 H A at-mem run .pre (to-next 𝓤 H A at-mem run W (h .matched)))) (goes-next 𝓤 H A at-mem run W (h .matched) (all-of h was .1 .1 .1 .0 .1)) $
-          calls-at ! fm (Next 𝓤 H A at-mem run) known (to-next 𝓤 H A at-mem run W (h .matched)) (and-then ! (load ! (from ! (stop !)) (look ! 21 refl)) (no-more !)) (λ v.
+          assigns ! (of-opd ! (load ! (from ! (hop ! (look ! 54 refl) (fld ! refl (stop !)))) (look-in ! 0 (sub ! 3 refl (whole !))))) (from ! (stop !)) (init ! 36 refl (tt, record { fits = all-of h was .1 .1 .1 .0 .1 })) $
+          nothing ! $ use1 W (raw (Nexts .pre (sent (h .matched)))) (goes-next 𝓤 H A at-mem run W (h .matched) (all-of h was .1 .1 .1 .0 .1)) $
+          calls-at ! fm Nexts known (sent (h .matched)) (and-then ! (load ! (from ! (stop !)) (look ! 37 refl)) (no-more !)) (λ v.
           use1 W (later (given (Is-next 𝓤 H A at-mem run W (h .matched) v) (‵ ftrue))) (gives 𝓤 H A at-mem run W (h .matched) v) $ await ! tt $ learn ! (λ u. drop ! $
-          land ! (from ! (stop !)) (init ! 22 refl (typed _ v u)) $ rewrite ! 22 (λ (y : Val). ‵ (fat fullShare (tyInt w64) l₉ 0 y)) (u .0) refl $
-          assigns-last ! (of-opd ! (load ! (from ! (stop !)) (look ! 22 refl))) (from ! (hop ! (look ! 38 refl) (fld ! refl (stop !)))) (store-in ! 0 (sub ! 3 refl (whole !)) (tt, record { fits = u .1 })) $
-          forget ! 20 refl $ forget ! 22 refl $ leaves (countedAt 3 h) (counted-by h k 3 e) (LL.owes T.the-type T′.the-laws (countedAt 3 h) (all-of h was .0, (all-of h was .1 .0, (all-of h was .1 .1 .0, ((refl, u .1), all-of h was .1 .1 .1 .1)))))))
+          land ! (from ! (stop !)) (init ! 38 refl (typed _ v u)) $ rewrite ! 38 (λ (y : Val). ‵ (fat fullShare (tyInt w64) l₉ 0 y)) (u .0) refl $
+          assigns-last ! (of-opd ! (load ! (from ! (stop !)) (look ! 38 refl))) (from ! (hop ! (look ! 54 refl) (fld ! refl (stop !)))) (store-in ! 0 (sub ! 3 refl (whole !)) (tt, record { fits = u .1 })) $
+          forget ! 36 refl $ forget ! 38 refl $
+          leaves (countedAt 3 h) (counted-by h k 3 e) (LL.owes T.the-type T′.the-laws (countedAt 3 h) ((all-of h was .0, (all-of h was .1 .0, (all-of h was .1 .1 .0, ((refl, u .1), all-of h was .1 .1 .1 .1))))))))
 
       arm-4 : tagOf K′.the-type k ≡ 4 → Sq W (Opened (counts-val h)) (runs C Λ E (arm-of 4 12 11) Then)
       arm-4 e =
-          assigns ! (of-opd ! (load ! (from ! (hop ! (look ! 38 refl) (fld ! refl (stop !)))) (look-in ! 0 (sub ! 4 refl (whole !))))) (from ! (stop !)) (init ! 16 refl (tt, record { fits = all-of h was .1 .1 .1 .1 .0 .1 })) $
-          nothing ! $ use1 W (raw (Next 𝓤 H A at-mem run .pre (to-next 𝓤 H A at-mem run W (h .«stp_decrease»)))) (goes-next 𝓤 H A at-mem run W (h .«stp_decrease») (all-of h was .1 .1 .1 .1 .0 .1)) $
-          calls-at ! fm (Next 𝓤 H A at-mem run) known (to-next 𝓤 H A at-mem run W (h .«stp_decrease»)) (and-then ! (load ! (from ! (stop !)) (look ! 17 refl)) (no-more !)) (λ v.
+          assigns ! (of-opd ! (load ! (from ! (hop ! (look ! 54 refl) (fld ! refl (stop !)))) (look-in ! 0 (sub ! 4 refl (whole !))))) (from ! (stop !)) (init ! 32 refl (tt, record { fits = all-of h was .1 .1 .1 .1 .0 .1 })) $
+          nothing ! $ use1 W (raw (Nexts .pre (sent (h .«stp_decrease»)))) (goes-next 𝓤 H A at-mem run W (h .«stp_decrease») (all-of h was .1 .1 .1 .1 .0 .1)) $
+          calls-at ! fm Nexts known (sent (h .«stp_decrease»)) (and-then ! (load ! (from ! (stop !)) (look ! 33 refl)) (no-more !)) (λ v.
           use1 W (later (given (Is-next 𝓤 H A at-mem run W (h .«stp_decrease») v) (‵ ftrue))) (gives 𝓤 H A at-mem run W (h .«stp_decrease») v) $ await ! tt $ learn ! (λ u. drop ! $
-          land ! (from ! (stop !)) (init ! 18 refl (typed _ v u)) $ rewrite ! 18 (λ (y : Val). ‵ (fat fullShare (tyInt w64) l₁₁ 0 y)) (u .0) refl $
-          assigns-last ! (of-opd ! (load ! (from ! (stop !)) (look ! 18 refl))) (from ! (hop ! (look ! 38 refl) (fld ! refl (stop !)))) (store-in ! 0 (sub ! 4 refl (whole !)) (tt, record { fits = u .1 })) $
-          forget ! 16 refl $ forget ! 18 refl $ leaves (countedAt 4 h) (counted-by h k 4 e) (LL.owes T.the-type T′.the-laws (countedAt 4 h) (all-of h was .0, (all-of h was .1 .0, (all-of h was .1 .1 .0, (all-of h was .1 .1 .1 .0, ((refl, u .1), all-of h was .1 .1 .1 .1 .1))))))))
+          land ! (from ! (stop !)) (init ! 34 refl (typed _ v u)) $ rewrite ! 34 (λ (y : Val). ‵ (fat fullShare (tyInt w64) l₁₁ 0 y)) (u .0) refl $
+          assigns-last ! (of-opd ! (load ! (from ! (stop !)) (look ! 34 refl))) (from ! (hop ! (look ! 54 refl) (fld ! refl (stop !)))) (store-in ! 0 (sub ! 4 refl (whole !)) (tt, record { fits = u .1 })) $
+          forget ! 32 refl $ forget ! 34 refl $
+          leaves (countedAt 4 h) (counted-by h k 4 e) (LL.owes T.the-type T′.the-laws (countedAt 4 h) ((all-of h was .0, (all-of h was .1 .0, (all-of h was .1 .1 .0, (all-of h was .1 .1 .1 .0, ((refl, u .1), all-of h was .1 .1 .1 .1 .1)))))))))
 
       arm-5 : tagOf K′.the-type k ≡ 5 → Sq W (Opened (counts-val h)) (runs C Λ E (arm-of 5 14 13) Then)
       arm-5 e =
-          assigns ! (of-opd ! (load ! (from ! (hop ! (look ! 38 refl) (fld ! refl (stop !)))) (look-in ! 0 (sub ! 5 refl (whole !))))) (from ! (stop !)) (init ! 12 refl (tt, record { fits = all-of h was .1 .1 .1 .1 .1 .0 .1 })) $
-          nothing ! $ use1 W (raw (Next 𝓤 H A at-mem run .pre (to-next 𝓤 H A at-mem run W (h .«off_book_done»)))) (goes-next 𝓤 H A at-mem run W (h .«off_book_done») (all-of h was .1 .1 .1 .1 .1 .0 .1)) $
-          calls-at ! fm (Next 𝓤 H A at-mem run) known (to-next 𝓤 H A at-mem run W (h .«off_book_done»)) (and-then ! (load ! (from ! (stop !)) (look ! 13 refl)) (no-more !)) (λ v.
+          assigns ! (of-opd ! (load ! (from ! (hop ! (look ! 54 refl) (fld ! refl (stop !)))) (look-in ! 0 (sub ! 5 refl (whole !))))) (from ! (stop !)) (init ! 28 refl (tt, record { fits = all-of h was .1 .1 .1 .1 .1 .0 .1 })) $
+          nothing ! $ use1 W (raw (Nexts .pre (sent (h .«off_book_done»)))) (goes-next 𝓤 H A at-mem run W (h .«off_book_done») (all-of h was .1 .1 .1 .1 .1 .0 .1)) $
+          calls-at ! fm Nexts known (sent (h .«off_book_done»)) (and-then ! (load ! (from ! (stop !)) (look ! 29 refl)) (no-more !)) (λ v.
           use1 W (later (given (Is-next 𝓤 H A at-mem run W (h .«off_book_done») v) (‵ ftrue))) (gives 𝓤 H A at-mem run W (h .«off_book_done») v) $ await ! tt $ learn ! (λ u. drop ! $
-          land ! (from ! (stop !)) (init ! 14 refl (typed _ v u)) $ rewrite ! 14 (λ (y : Val). ‵ (fat fullShare (tyInt w64) l₁₃ 0 y)) (u .0) refl $
-          assigns-last ! (of-opd ! (load ! (from ! (stop !)) (look ! 14 refl))) (from ! (hop ! (look ! 38 refl) (fld ! refl (stop !)))) (store-in ! 0 (sub ! 5 refl (whole !)) (tt, record { fits = u .1 })) $
-          forget ! 12 refl $ forget ! 14 refl $ leaves (countedAt 5 h) (counted-by h k 5 e) (LL.owes T.the-type T′.the-laws (countedAt 5 h) (all-of h was .0, (all-of h was .1 .0, (all-of h was .1 .1 .0, (all-of h was .1 .1 .1 .0, (all-of h was .1 .1 .1 .1 .0, ((refl, u .1), all-of h was .1 .1 .1 .1 .1 .1)))))))))
+          land ! (from ! (stop !)) (init ! 30 refl (typed _ v u)) $ rewrite ! 30 (λ (y : Val). ‵ (fat fullShare (tyInt w64) l₁₃ 0 y)) (u .0) refl $
+          assigns-last ! (of-opd ! (load ! (from ! (stop !)) (look ! 30 refl))) (from ! (hop ! (look ! 54 refl) (fld ! refl (stop !)))) (store-in ! 0 (sub ! 5 refl (whole !)) (tt, record { fits = u .1 })) $
+          forget ! 28 refl $ forget ! 30 refl $
+          leaves (countedAt 5 h) (counted-by h k 5 e) (LL.owes T.the-type T′.the-laws (countedAt 5 h) ((all-of h was .0, (all-of h was .1 .0, (all-of h was .1 .1 .0, (all-of h was .1 .1 .1 .0, (all-of h was .1 .1 .1 .1 .0, ((refl, u .1), all-of h was .1 .1 .1 .1 .1 .1))))))))))
 
       arm-6 : tagOf K′.the-type k ≡ 6 → Sq W (Opened (counts-val h)) (runs C Λ E (arm-of 6 16 15) Then)
       arm-6 e =
-          assigns ! (of-opd ! (load ! (from ! (hop ! (look ! 38 refl) (fld ! refl (stop !)))) (look-in ! 0 (sub ! 6 refl (whole !))))) (from ! (stop !)) (init ! 8 refl (tt, record { fits = all-of h was .1 .1 .1 .1 .1 .1 .0 .1 })) $
-          nothing ! $ use1 W (raw (Next 𝓤 H A at-mem run .pre (to-next 𝓤 H A at-mem run W (h .«off_book_change»)))) (goes-next 𝓤 H A at-mem run W (h .«off_book_change») (all-of h was .1 .1 .1 .1 .1 .1 .0 .1)) $
-          calls-at ! fm (Next 𝓤 H A at-mem run) known (to-next 𝓤 H A at-mem run W (h .«off_book_change»)) (and-then ! (load ! (from ! (stop !)) (look ! 9 refl)) (no-more !)) (λ v.
+          assigns ! (of-opd ! (load ! (from ! (hop ! (look ! 54 refl) (fld ! refl (stop !)))) (look-in ! 0 (sub ! 6 refl (whole !))))) (from ! (stop !)) (init ! 24 refl (tt, record { fits = all-of h was .1 .1 .1 .1 .1 .1 .0 .1 })) $
+          nothing ! $ use1 W (raw (Nexts .pre (sent (h .«off_book_change»)))) (goes-next 𝓤 H A at-mem run W (h .«off_book_change») (all-of h was .1 .1 .1 .1 .1 .1 .0 .1)) $
+          calls-at ! fm Nexts known (sent (h .«off_book_change»)) (and-then ! (load ! (from ! (stop !)) (look ! 25 refl)) (no-more !)) (λ v.
           use1 W (later (given (Is-next 𝓤 H A at-mem run W (h .«off_book_change») v) (‵ ftrue))) (gives 𝓤 H A at-mem run W (h .«off_book_change») v) $ await ! tt $ learn ! (λ u. drop ! $
-          land ! (from ! (stop !)) (init ! 10 refl (typed _ v u)) $ rewrite ! 10 (λ (y : Val). ‵ (fat fullShare (tyInt w64) l₁₅ 0 y)) (u .0) refl $
-          assigns-last ! (of-opd ! (load ! (from ! (stop !)) (look ! 10 refl))) (from ! (hop ! (look ! 38 refl) (fld ! refl (stop !)))) (store-in ! 0 (sub ! 6 refl (whole !)) (tt, record { fits = u .1 })) $
-          forget ! 8 refl $ forget ! 10 refl $ leaves (countedAt 6 h) (counted-by h k 6 e) (LL.owes T.the-type T′.the-laws (countedAt 6 h) (all-of h was .0, (all-of h was .1 .0, (all-of h was .1 .1 .0, (all-of h was .1 .1 .1 .0, (all-of h was .1 .1 .1 .1 .0, (all-of h was .1 .1 .1 .1 .1 .0, ((refl, u .1), all-of h was .1 .1 .1 .1 .1 .1 .1))))))))))
+          land ! (from ! (stop !)) (init ! 26 refl (typed _ v u)) $ rewrite ! 26 (λ (y : Val). ‵ (fat fullShare (tyInt w64) l₁₅ 0 y)) (u .0) refl $
+          assigns-last ! (of-opd ! (load ! (from ! (stop !)) (look ! 26 refl))) (from ! (hop ! (look ! 54 refl) (fld ! refl (stop !)))) (store-in ! 0 (sub ! 6 refl (whole !)) (tt, record { fits = u .1 })) $
+          forget ! 24 refl $ forget ! 26 refl $
+          leaves (countedAt 6 h) (counted-by h k 6 e) (LL.owes T.the-type T′.the-laws (countedAt 6 h) ((all-of h was .0, (all-of h was .1 .0, (all-of h was .1 .1 .0, (all-of h was .1 .1 .1 .0, (all-of h was .1 .1 .1 .1 .0, (all-of h was .1 .1 .1 .1 .1 .0, ((refl, u .1), all-of h was .1 .1 .1 .1 .1 .1 .1)))))))))))
 
       arm-7 : tagOf K′.the-type k ≡ 7 → Sq W (Opened (counts-val h)) (runs C Λ E (arm-of 7 18 17) Then)
       arm-7 e =
-          assigns ! (of-opd ! (load ! (from ! (hop ! (look ! 38 refl) (fld ! refl (stop !)))) (look-in ! 0 (sub ! 7 refl (whole !))))) (from ! (stop !)) (init ! 4 refl (tt, record { fits = all-of h was .1 .1 .1 .1 .1 .1 .1 .0 .1 })) $
-          nothing ! $ use1 W (raw (Next 𝓤 H A at-mem run .pre (to-next 𝓤 H A at-mem run W (h .«noop_change»)))) (goes-next 𝓤 H A at-mem run W (h .«noop_change») (all-of h was .1 .1 .1 .1 .1 .1 .1 .0 .1)) $
-          calls-at ! fm (Next 𝓤 H A at-mem run) known (to-next 𝓤 H A at-mem run W (h .«noop_change»)) (and-then ! (load ! (from ! (stop !)) (look ! 5 refl)) (no-more !)) (λ v.
+          assigns ! (of-opd ! (load ! (from ! (hop ! (look ! 54 refl) (fld ! refl (stop !)))) (look-in ! 0 (sub ! 7 refl (whole !))))) (from ! (stop !)) (init ! 20 refl (tt, record { fits = all-of h was .1 .1 .1 .1 .1 .1 .1 .0 .1 })) $
+          nothing ! $ use1 W (raw (Nexts .pre (sent (h .«noop_change»)))) (goes-next 𝓤 H A at-mem run W (h .«noop_change») (all-of h was .1 .1 .1 .1 .1 .1 .1 .0 .1)) $
+          calls-at ! fm Nexts known (sent (h .«noop_change»)) (and-then ! (load ! (from ! (stop !)) (look ! 21 refl)) (no-more !)) (λ v.
           use1 W (later (given (Is-next 𝓤 H A at-mem run W (h .«noop_change») v) (‵ ftrue))) (gives 𝓤 H A at-mem run W (h .«noop_change») v) $ await ! tt $ learn ! (λ u. drop ! $
-          land ! (from ! (stop !)) (init ! 6 refl (typed _ v u)) $ rewrite ! 6 (λ (y : Val). ‵ (fat fullShare (tyInt w64) l₁₇ 0 y)) (u .0) refl $
-          assigns-last ! (of-opd ! (load ! (from ! (stop !)) (look ! 6 refl))) (from ! (hop ! (look ! 38 refl) (fld ! refl (stop !)))) (store-in ! 0 (sub ! 7 refl (whole !)) (tt, record { fits = u .1 })) $
-          forget ! 4 refl $ forget ! 6 refl $ leaves (countedAt 7 h) (counted-by h k 7 e) (LL.owes T.the-type T′.the-laws (countedAt 7 h) (all-of h was .0, (all-of h was .1 .0, (all-of h was .1 .1 .0, (all-of h was .1 .1 .1 .0, (all-of h was .1 .1 .1 .1 .0, (all-of h was .1 .1 .1 .1 .1 .0, (all-of h was .1 .1 .1 .1 .1 .1 .0, ((refl, u .1), all-of h was .1 .1 .1 .1 .1 .1 .1 .1)))))))))))
+          land ! (from ! (stop !)) (init ! 22 refl (typed _ v u)) $ rewrite ! 22 (λ (y : Val). ‵ (fat fullShare (tyInt w64) l₁₇ 0 y)) (u .0) refl $
+          assigns-last ! (of-opd ! (load ! (from ! (stop !)) (look ! 22 refl))) (from ! (hop ! (look ! 54 refl) (fld ! refl (stop !)))) (store-in ! 0 (sub ! 7 refl (whole !)) (tt, record { fits = u .1 })) $
+          forget ! 20 refl $ forget ! 22 refl $
+          leaves (countedAt 7 h) (counted-by h k 7 e) (LL.owes T.the-type T′.the-laws (countedAt 7 h) ((all-of h was .0, (all-of h was .1 .0, (all-of h was .1 .1 .0, (all-of h was .1 .1 .1 .0, (all-of h was .1 .1 .1 .1 .0, (all-of h was .1 .1 .1 .1 .1 .0, (all-of h was .1 .1 .1 .1 .1 .1 .0, ((refl, u .1), all-of h was .1 .1 .1 .1 .1 .1 .1 .1))))))))))))
+
+      arm-8 : tagOf K′.the-type k ≡ 8 → Sq W (Opened (counts-val h)) (runs C Λ E (arm-of 8 20 19) Then)
+      arm-8 e =
+          assigns ! (of-opd ! (load ! (from ! (hop ! (look ! 54 refl) (fld ! refl (stop !)))) (look-in ! 0 (sub ! 8 refl (whole !))))) (from ! (stop !)) (init ! 16 refl (tt, record { fits = all-of h was .1 .1 .1 .1 .1 .1 .1 .1 .0 .1 })) $
+          nothing ! $ use1 W (raw (Nexts .pre (sent (h .«handshake_dropped»)))) (goes-next 𝓤 H A at-mem run W (h .«handshake_dropped») (all-of h was .1 .1 .1 .1 .1 .1 .1 .1 .0 .1)) $
+          calls-at ! fm Nexts known (sent (h .«handshake_dropped»)) (and-then ! (load ! (from ! (stop !)) (look ! 17 refl)) (no-more !)) (λ v.
+          use1 W (later (given (Is-next 𝓤 H A at-mem run W (h .«handshake_dropped») v) (‵ ftrue))) (gives 𝓤 H A at-mem run W (h .«handshake_dropped») v) $ await ! tt $ learn ! (λ u. drop ! $
+          land ! (from ! (stop !)) (init ! 18 refl (typed _ v u)) $ rewrite ! 18 (λ (y : Val). ‵ (fat fullShare (tyInt w64) l₁₉ 0 y)) (u .0) refl $
+          assigns-last ! (of-opd ! (load ! (from ! (stop !)) (look ! 18 refl))) (from ! (hop ! (look ! 54 refl) (fld ! refl (stop !)))) (store-in ! 0 (sub ! 8 refl (whole !)) (tt, record { fits = u .1 })) $
+          forget ! 16 refl $ forget ! 18 refl $
+          leaves (countedAt 8 h) (counted-by h k 8 e) (LL.owes T.the-type T′.the-laws (countedAt 8 h) ((all-of h was .0, (all-of h was .1 .0, (all-of h was .1 .1 .0, (all-of h was .1 .1 .1 .0, (all-of h was .1 .1 .1 .1 .0, (all-of h was .1 .1 .1 .1 .1 .0, (all-of h was .1 .1 .1 .1 .1 .1 .0, (all-of h was .1 .1 .1 .1 .1 .1 .1 .0, ((refl, u .1), all-of h was .1 .1 .1 .1 .1 .1 .1 .1 .1)))))))))))))
+
+      arm-9 : tagOf K′.the-type k ≡ 9 → Sq W (Opened (counts-val h)) (runs C Λ E (arm-of 9 22 21) Then)
+      arm-9 e =
+          assigns ! (of-opd ! (load ! (from ! (hop ! (look ! 54 refl) (fld ! refl (stop !)))) (look-in ! 0 (sub ! 9 refl (whole !))))) (from ! (stop !)) (init ! 12 refl (tt, record { fits = all-of h was .1 .1 .1 .1 .1 .1 .1 .1 .1 .0 .1 })) $
+          nothing ! $ use1 W (raw (Nexts .pre (sent (h .«skipped_while_invalid»)))) (goes-next 𝓤 H A at-mem run W (h .«skipped_while_invalid») (all-of h was .1 .1 .1 .1 .1 .1 .1 .1 .1 .0 .1)) $
+          calls-at ! fm Nexts known (sent (h .«skipped_while_invalid»)) (and-then ! (load ! (from ! (stop !)) (look ! 13 refl)) (no-more !)) (λ v.
+          use1 W (later (given (Is-next 𝓤 H A at-mem run W (h .«skipped_while_invalid») v) (‵ ftrue))) (gives 𝓤 H A at-mem run W (h .«skipped_while_invalid») v) $ await ! tt $ learn ! (λ u. drop ! $
+          land ! (from ! (stop !)) (init ! 14 refl (typed _ v u)) $ rewrite ! 14 (λ (y : Val). ‵ (fat fullShare (tyInt w64) l₂₁ 0 y)) (u .0) refl $
+          assigns-last ! (of-opd ! (load ! (from ! (stop !)) (look ! 14 refl))) (from ! (hop ! (look ! 54 refl) (fld ! refl (stop !)))) (store-in ! 0 (sub ! 9 refl (whole !)) (tt, record { fits = u .1 })) $
+          forget ! 12 refl $ forget ! 14 refl $
+          leaves (countedAt 9 h) (counted-by h k 9 e) (LL.owes T.the-type T′.the-laws (countedAt 9 h) ((all-of h was .0, (all-of h was .1 .0, (all-of h was .1 .1 .0, (all-of h was .1 .1 .1 .0, (all-of h was .1 .1 .1 .1 .0, (all-of h was .1 .1 .1 .1 .1 .0, (all-of h was .1 .1 .1 .1 .1 .1 .0, (all-of h was .1 .1 .1 .1 .1 .1 .1 .0, (all-of h was .1 .1 .1 .1 .1 .1 .1 .1 .0, ((refl, u .1), all-of h was .1 .1 .1 .1 .1 .1 .1 .1 .1 .1))))))))))))))
+
+      arm-10 : tagOf K′.the-type k ≡ 10 → Sq W (Opened (counts-val h)) (runs C Λ E (arm-of 10 24 23) Then)
+      arm-10 e =
+          assigns ! (of-opd ! (load ! (from ! (hop ! (look ! 54 refl) (fld ! refl (stop !)))) (look-in ! 0 (sub ! 10 refl (whole !))))) (from ! (stop !)) (init ! 8 refl (tt, record { fits = all-of h was .1 .1 .1 .1 .1 .1 .1 .1 .1 .1 .0 .1 })) $
+          nothing ! $ use1 W (raw (Nexts .pre (sent (h .«wrong_product»)))) (goes-next 𝓤 H A at-mem run W (h .«wrong_product») (all-of h was .1 .1 .1 .1 .1 .1 .1 .1 .1 .1 .0 .1)) $
+          calls-at ! fm Nexts known (sent (h .«wrong_product»)) (and-then ! (load ! (from ! (stop !)) (look ! 9 refl)) (no-more !)) (λ v.
+          use1 W (later (given (Is-next 𝓤 H A at-mem run W (h .«wrong_product») v) (‵ ftrue))) (gives 𝓤 H A at-mem run W (h .«wrong_product») v) $ await ! tt $ learn ! (λ u. drop ! $
+          land ! (from ! (stop !)) (init ! 10 refl (typed _ v u)) $ rewrite ! 10 (λ (y : Val). ‵ (fat fullShare (tyInt w64) l₂₃ 0 y)) (u .0) refl $
+          assigns-last ! (of-opd ! (load ! (from ! (stop !)) (look ! 10 refl))) (from ! (hop ! (look ! 54 refl) (fld ! refl (stop !)))) (store-in ! 0 (sub ! 10 refl (whole !)) (tt, record { fits = u .1 })) $
+          forget ! 8 refl $ forget ! 10 refl $
+          leaves (countedAt 10 h) (counted-by h k 10 e) (LL.owes T.the-type T′.the-laws (countedAt 10 h) ((all-of h was .0, (all-of h was .1 .0, (all-of h was .1 .1 .0, (all-of h was .1 .1 .1 .0, (all-of h was .1 .1 .1 .1 .0, (all-of h was .1 .1 .1 .1 .1 .0, (all-of h was .1 .1 .1 .1 .1 .1 .0, (all-of h was .1 .1 .1 .1 .1 .1 .1 .0, (all-of h was .1 .1 .1 .1 .1 .1 .1 .1 .0, (all-of h was .1 .1 .1 .1 .1 .1 .1 .1 .1 .0, ((refl, u .1), all-of h was .1 .1 .1 .1 .1 .1 .1 .1 .1 .1 .1)))))))))))))))
+
+      arm-11 : tagOf K′.the-type k ≡ 11 → Sq W (Opened (counts-val h)) (runs C Λ E (arm-of 11 26 25) Then)
+      arm-11 e =
+          assigns ! (of-opd ! (load ! (from ! (hop ! (look ! 54 refl) (fld ! refl (stop !)))) (look-in ! 0 (sub ! 11 refl (whole !))))) (from ! (stop !)) (init ! 4 refl (tt, record { fits = all-of h was .1 .1 .1 .1 .1 .1 .1 .1 .1 .1 .1 .0 .1 })) $
+          nothing ! $ use1 W (raw (Nexts .pre (sent (h .«rejected_snapshots»)))) (goes-next 𝓤 H A at-mem run W (h .«rejected_snapshots») (all-of h was .1 .1 .1 .1 .1 .1 .1 .1 .1 .1 .1 .0 .1)) $
+          calls-at ! fm Nexts known (sent (h .«rejected_snapshots»)) (and-then ! (load ! (from ! (stop !)) (look ! 5 refl)) (no-more !)) (λ v.
+          use1 W (later (given (Is-next 𝓤 H A at-mem run W (h .«rejected_snapshots») v) (‵ ftrue))) (gives 𝓤 H A at-mem run W (h .«rejected_snapshots») v) $ await ! tt $ learn ! (λ u. drop ! $
+          land ! (from ! (stop !)) (init ! 6 refl (typed _ v u)) $ rewrite ! 6 (λ (y : Val). ‵ (fat fullShare (tyInt w64) l₂₅ 0 y)) (u .0) refl $
+          assigns-last ! (of-opd ! (load ! (from ! (stop !)) (look ! 6 refl))) (from ! (hop ! (look ! 54 refl) (fld ! refl (stop !)))) (store-in ! 0 (sub ! 11 refl (whole !)) (tt, record { fits = u .1 })) $
+          forget ! 4 refl $ forget ! 6 refl $
+          leaves (countedAt 11 h) (counted-by h k 11 e) (LL.owes T.the-type T′.the-laws (countedAt 11 h) ((all-of h was .0, (all-of h was .1 .0, (all-of h was .1 .1 .0, (all-of h was .1 .1 .1 .0, (all-of h was .1 .1 .1 .1 .0, (all-of h was .1 .1 .1 .1 .1 .0, (all-of h was .1 .1 .1 .1 .1 .1 .0, (all-of h was .1 .1 .1 .1 .1 .1 .1 .0, (all-of h was .1 .1 .1 .1 .1 .1 .1 .1 .0, (all-of h was .1 .1 .1 .1 .1 .1 .1 .1 .1 .0, (all-of h was .1 .1 .1 .1 .1 .1 .1 .1 .1 .1 .0, ((refl, u .1), all-of h was .1 .1 .1 .1 .1 .1 .1 .1 .1 .1 .1 .1))))))))))))))))
 
       matched : Sq W (Opened (counts-val h)) (runs C Λ E the-mir.s-1 Then)
       matched =
-          by-variants ! 36 (whole !) (load ! (from ! (vrt ! refl (fld ! refl (stop !)))) (look-tag ! 36 (whole !))) tt
-          (arm-0, (arm-1, (arm-2, (arm-3, (arm-4, (arm-5, (arm-6, (arm-7, tt))))))))
+          by-variants ! 52 (whole !) (load ! (from ! (vrt ! refl (fld ! refl (stop !)))) (look-tag ! 52 (whole !))) tt
+          (arm-0, (arm-1, (arm-2, (arm-3, (arm-4, (arm-5, (arm-6, (arm-7, (arm-8, (arm-9, (arm-10, (arm-11, tt))))))))))))
 
     walk : ent 𝓤 (onEntry 𝓤 H A f.signature (κ, tt) (q, tt) x at) (WpFn 𝓤 H C Λ code.function (vptr b o ∷ counter-val k ∷ []) Post)
     walk =
         qed W ((‵ (flft κ q) ⊛ ‵ ftrue) ∷ ‵ (owns (MutRef (named 0) κ R ∷ K ∷ []) x at) ∷ []) ∵ enter ! C Λ code.function (vptr b o ∷ counter-val k ∷ []) _ $
         alloc1 ! (λ l₀. alloc1 ! (λ l₁. alloc1 ! (λ l₂. alloc1 ! (λ l₃. alloc1 ! (λ l₄. alloc1 ! (λ l₅. alloc1 ! (λ l₆. alloc1 ! (λ l₇. alloc1 ! (λ l₈. alloc1 ! (λ l₉.
-        alloc1 ! (λ l₁₀. alloc1 ! (λ l₁₁. alloc1 ! (λ l₁₂. alloc1 ! (λ l₁₃. alloc1 ! (λ l₁₄. alloc1 ! (λ l₁₅. alloc1 ! (λ l₁₆. alloc1 ! (λ l₁₇. alloc1 ! (λ l₁₈. alloc0 ! $ params1 ! $
-        pass1 ! (init ! 34 refl (tt, tt)) $ pass1 ! (init ! 32 refl (counter-lawful 𝓤 H A W .typed k _ is-k .0)) $ pass0 ! $
-        move ! (39 ∷ []) $ fsplit ! $ fsplit3 ! $ drop ! $ move ! (41 ∷ []) $ split ! $ move ! (1 ∷ []) $ drop ! $ move ! (3 ∷ []) $ drop ! $ move ! (1 ∷ 2 ∷ 0 ∷ []) $
+        alloc1 ! (λ l₁₀. alloc1 ! (λ l₁₁. alloc1 ! (λ l₁₂. alloc1 ! (λ l₁₃. alloc1 ! (λ l₁₄. alloc1 ! (λ l₁₅. alloc1 ! (λ l₁₆. alloc1 ! (λ l₁₇. alloc1 ! (λ l₁₈. alloc1 ! (λ l₁₉.
+        alloc1 ! (λ l₂₀. alloc1 ! (λ l₂₁. alloc1 ! (λ l₂₂. alloc1 ! (λ l₂₃. alloc1 ! (λ l₂₄. alloc1 ! (λ l₂₅. alloc1 ! (λ l₂₆. alloc0 ! $ params1 ! $
+        pass1 ! (init ! 50 refl (tt, tt)) $ pass1 ! (init ! 48 refl (counter-lawful 𝓤 H A W .typed k _ is-k .0)) $ pass0 ! $
+        move ! (55 ∷ []) $ fsplit ! $ fsplit3 ! $ drop ! $ move ! (57 ∷ []) $ split ! $ move ! (1 ∷ []) $ drop ! $ move ! (3 ∷ []) $ drop ! $ move ! (1 ∷ 2 ∷ 0 ∷ []) $
         opens ! tt R {h = h} b o (λ vs. spelt ! R (Is R) (shows 𝓤 H A R) (LL.vals T.the-type T′.the-laws) (LL.tells T.the-type T′.the-laws) fullShare h vs b o $
-        move ! (1 ∷ []) $ facts ! R (Is R) (shows 𝓤 H A R) h (counts-val h ∷ []) (λ was. first ! $ matched l₀ l₁ l₂ l₃ l₄ l₅ l₆ l₇ l₈ l₉ l₁₀ l₁₁ l₁₂ l₁₃ l₁₄ l₁₅ l₁₆ l₁₇ l₁₈ was)))))))))))))))))))))
+        move ! (1 ∷ []) $ facts ! R (Is R) (shows 𝓤 H A R) h (counts-val h ∷ []) (λ was. first ! $ matched l₀ l₁ l₂ l₃ l₄ l₅ l₆ l₇ l₈ l₉ l₁₀ l₁₁ l₁₂ l₁₃ l₁₄ l₁₅ l₁₆ l₁₇ l₁₈ l₁₉ l₂₀ l₂₁ l₂₂ l₂₃ l₂₄ l₂₅ l₂₆ was)))))))))))))))))))))))))))))
 
 module _ {M : Type 1} (𝓤 : URA M) (H : Heap 𝓤) (A : Atoms 𝓤) (W : Given 𝓤 H A) (at-mem : Memory → SProp 𝓤) (run : Routine → Fun 𝓤) where
   count-walks : (C : Calls 𝓤 H) (Λ : Loops 𝓤 H) → FmC 𝓤 H (W .laws) C → Triple 𝓤 (C #next) (Next 𝓤 H A at-mem run) → Walks 𝓤 H A f.ended stayed (WpFn 𝓤 H C Λ code.function) (f.clauses 𝓤 H A at-mem run)

@@ -9,7 +9,7 @@ use Rattle.reconstructor_counts.specs.declared.Counter.the-variants.{Stp}
 use Rattle.message.specs.Amounts.{natOf}
 use Rattle.reconstructor_plan.specs.Rules.{eventRefusal, changeRefusal, sizeRefusal, eventDeed, effect, counterOf}
 use Rattle.reconstructor_state.proofs.Checks.{fails, goes-on, told-true, told-false, links}
-use Rattle.reconstructor_plan.proofs.Found.{cut-deed, cut-fits, at-row, row-entry, no-row}
+use Rattle.reconstructor_plan.proofs.Found.{cut-outcome, cut-fits, at-row, row-entry, no-row}
 use Rattle.reconstructor_plan.proofs.plan_change.Statement.{statement}
 use Rattle.reconstructor_plan.proofs.plan_change.Tie as tie
 
@@ -152,7 +152,7 @@ returns-9 c =
     let n = rw e at (k-is-negative .is-negative .ensures) in
     let q = k-size-of .size-of .ensures ∙ ap natOf e in
     let k = at-row _ _ _ _ (k-find .find .ensures) _ (k-at .at .given .1) in
-    let g = cut-deed (k-start .args .rows .now) (k-start .args .n) (k-start .args .order-id) _ k (k-size-of .size-of .result) (Marked (k-start .args .seq)) Stp in
+    let g = cut-outcome (k-start .args .rows .now) (k-start .args .n) (k-start .args .order-id) _ k (k-size-of .size-of .result) (Marked (k-start .args .seq)) Stp in
     let h = cut-fits (k-start .args .rows .now) (k-start .args .n) (k-start .args .order-id) _ k (k-size-of .size-of .result) (Marked (k-start .args .seq)) Stp in
     λ v. (rw (f, k-new-size .new-size .given .1, ← q) (goes-on _ _ _ _ (told-false (k-is-modify .is-modify .ensures) (k-if1 .if1 .left)) (goes-on _ _ _ _ (told-false (k-change-differs .change-differs .ensures) (k-if2 .if2 .left)) (goes-on _ _ _ _ (told-false (k-given-differs .given-differs .ensures) (k-if3 .if3 .left)) (goes-on _ _ _ _ (told-false n (k-if4 .if4 .left)) (goes-on _ _ _ _ (le-ltb _ _ (k-if5 .if5 .left)) (refl)))))), rw (c .cut-plan .ensures, f, k-new-size .new-size .given .1, ← q, ne-eqb _ _ (c .before .if6 .left)) g, rw (c .cut-plan .ensures) h)
 

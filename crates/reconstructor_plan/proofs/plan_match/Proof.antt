@@ -8,7 +8,7 @@ use Rattle.reconstructor_counts.specs.declared.Counter.the-variants.{Matched}
 use Rattle.reconstructor_plan.specs.Rules.{eventRefusal, makerRefusal, eventDeed, effect, counterOf}
 use Rattle.message.proofs.Signed.{back, sized}
 use Rattle.reconstructor_state.proofs.Checks.{fails, goes-on, told-false, links}
-use Rattle.reconstructor_plan.proofs.Found.{cut-deed, cut-fits, at-row, row-entry, it-rests, no-row}
+use Rattle.reconstructor_plan.proofs.Found.{cut-outcome, cut-fits, at-row, row-entry, it-rests, no-row}
 use Rattle.reconstructor_plan.proofs.plan_match.Statement.{statement}
 use Rattle.reconstructor_plan.proofs.plan_match.Tie as tie
 
@@ -89,7 +89,7 @@ returns-6 c =
     let p = rw (back (k-start .args .price) (k-start .fits .price .sfits)) at (k-match-differs .match-differs .ensures) in
     let q = sized _ (k-size-of .size-of .ensures) (k-start .fits .size) in
     let k = at-row _ _ _ _ (k-find2 .find2 .ensures) _ (k-at .at .given .1) in
-    let g = cut-deed (k-start .args .rows .now) (k-start .args .n) (k-start .args .maker-id) _ k (k-get-row .get-row .result .remaining - k-size-of .size-of .result) Unmarked Matched in
+    let g = cut-outcome (k-start .args .rows .now) (k-start .args .n) (k-start .args .maker-id) _ k (k-get-row .get-row .result .remaining - k-size-of .size-of .result) Unmarked Matched in
     let h = cut-fits (k-start .args .rows .now) (k-start .args .n) (k-start .args .maker-id) _ k (k-get-row .get-row .result .remaining - k-size-of .size-of .result) Unmarked Matched in
     λ v seq. rw (c .cut-plan .ensures, no-row _ _ _ _ (k-find .find .ensures) (k-enum-told .enum-told .given .1), f, ← q)
     (goes-on _ _ _ _ (refl) (goes-on _ _ _ _ (told-false p (k-if1 .if1 .left)) (goes-on _ _ _ _ (ne-eqb _ _ (k-if2 .if2 .left)) (goes-on _ _ _ _ (le-ltb _ _ (c .before .before .if3 .left)) (refl)))), g, h)

@@ -1,13 +1,13 @@
-use Prim.Native.Nat.{_*_, _≤_}
-use mathlib.Core.Path.{_≡_, _∙_, sym, refl, ap}
+use Prim.Native.Nat.{_*_}
+use mathlib.Core.Path.{_≡_, _∙_, sym, ap}
 use native.Mathlib.Omega.{arith}
 use lib.ListN.{length}
 use borrow.Author.Tests.{lt-ltb, le-ltb}
-use Rattle.book.specs.Rows.{ceiling, rowsOf, lineOf}
+use Rattle.book.specs.Rows.{rowsOf, lineOf}
 use Rattle.book_levels.specs.Levels.{prices, levelsWords}
 use Rattle.book_levels.proofs.Prices.{prices-count}
 use Rattle.book_levels.proofs.Writing.{few-words, prices-few, length-levels}
-use Rattle.reconstructor_reads.specs.Reads.{shown}
+use Rattle.reconstructor_reads.specs.LevelReads.{shown}
 use borrow.Author.Needs.{needs}
 use Rattle.reconstructor_reads.proofs.show_levels.Statement.{statement}
 use Rattle.reconstructor_reads.proofs.show_levels.Tie as tie

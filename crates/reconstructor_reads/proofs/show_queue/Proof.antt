@@ -1,14 +1,13 @@
-use Prim.Native.Nat.{_*_, _≤_}
-use mathlib.Core.Path.{_≡_, _∙_, sym, refl, ap}
+use mathlib.Core.Path.{_≡_, sym}
 use native.Mathlib.Omega.{arith}
 use lib.ListN.{length}
 use borrow.Author.Tests.{lt-ltb, le-ltb}
-use Rattle.book.specs.Rows.{ceiling, rowsOf, lineOf}
+use Rattle.book.specs.Rows.{rowsOf}
 use Rattle.book.proofs.Rows.{length-rows}
 use Rattle.book_queue.specs.declared.EntryForm.the-variants.{Queue}
 use Rattle.book_queue.specs.Queue.{rowsAt, entriesWords}
 use Rattle.book_queue.proofs.Orders.{at-most, width-entries}
-use Rattle.reconstructor_reads.specs.Reads.{shown}
+use Rattle.reconstructor_reads.specs.LevelReads.{shown}
 use borrow.Author.Needs.{needs}
 use Rattle.reconstructor_reads.proofs.show_queue.Statement.{statement}
 use Rattle.reconstructor_reads.proofs.show_queue.Tie as tie

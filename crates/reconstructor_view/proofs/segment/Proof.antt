@@ -26,7 +26,7 @@ use Rattle.reconstructor_state.proofs.BookReconstructor as B
 use Rattle.reconstructor_state.proofs.BookReconstructor.Laws as B′
 use Rattle.reconstructor_view.proofs.SegmentAnswer as Y
 use Rattle.reconstructor_view.proofs.SegmentAnswer.Laws as Y′
-use Rattle.reconstructor_view.specs.View.{recordsTo, segmentReadTo, segmentRead}
+use Rattle.reconstructor_view.specs.ValueReads.{recordsTo, segmentReadTo, segmentRead}
 use Rattle.reconstructor_view.specs.Numbers.{segmentTold}
 use Rattle.reconstructor_view.proofs.ByValue.{read-by-value}
 use Rattle.reconstructor_view.proofs.SegmentShell as shell

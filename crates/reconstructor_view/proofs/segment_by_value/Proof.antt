@@ -1,5 +1,5 @@
 use borrow.Author.Tests.{le-leb, lt-leb}
-use Rattle.reconstructor_view.specs.View.{segmentReadTo}
+use Rattle.reconstructor_view.specs.ValueReads.{segmentReadTo}
 use Rattle.reconstructor_view.proofs.segment_by_value.Statement.{statement}
 use Rattle.reconstructor_view.proofs.segment_by_value.Tie as tie
 

@@ -1,7 +1,7 @@
 use mathlib.Core.Path.{_∙_, sym, refl, ap}
-use Rattle.book.specs.Rows.{ceiling}
+use Rattle.book.specs.Memory.{memory}
 use Rattle.reconstructor_state.specs.State.{lastOf}
-use Rattle.reconstructor_view.specs.View.{stateRead, viewRefusal, viewed}
+use Rattle.reconstructor_view.specs.ValueReads.{readRefusalOf, viewRefusal, sequenceOf}
 use Rattle.reconstructor_checks.proofs.Own.{said, said-none}
 use Rattle.reconstructor_state.proofs.Checks.{first-fails, first-on}
 use borrow.Author.Needs.{needs}
@@ -9,18 +9,20 @@ use Rattle.reconstructor_view.proofs.valid_book.Statement.{statement}
 use Rattle.reconstructor_view.proofs.valid_book.Tie as tie
 
 returns : tie.Need-returns
-unfolding viewRefusal viewed
+unfolding viewRefusal sequenceOf
 returns c =
     let k-read-checks = c .before .before .before in
-    let k-start = k-read-checks .before .before in
-    ap (λ o. viewed o (lastOf (k-start .args .book .status))) (sym (first-fails _ _ _ _ (said (stateRead ceiling (k-start .args .book) (k-start .args .rows .now) (k-start .args .short)) _ _ (k-read-checks .read-checks .ensures) (c .before .why .given .1))))
+    let a = k-read-checks .before .before .args in
+    let h = said (readRefusalOf (a .top) (a .book) (memory (a .rows .now)) (a .short)) _ _ (k-read-checks .read-checks .ensures) (c .before .why .given .1) in
+    ap (λ o. sequenceOf o (lastOf (a .book .status))) (sym (first-fails _ _ _ _ h))
 
 returns-2 : tie.Need-returns-2
-unfolding viewRefusal viewed
+unfolding viewRefusal sequenceOf
 returns-2 c =
     let k-read-checks = c .before .before .before in
-    let k-start = k-read-checks .before .before in
-    c .valid-status .ensures ∙ ap (λ o. viewed o (lastOf (k-start .args .book .status))) (sym (first-on _ _ _ _ (said-none (stateRead ceiling (k-start .args .book) (k-start .args .rows .now) (k-start .args .short)) _ (k-read-checks .read-checks .ensures) (c .before .enum-told .given .1)) refl))
+    let a = k-read-checks .before .before .args in
+    let h = said-none (readRefusalOf (a .top) (a .book) (memory (a .rows .now)) (a .short)) _ (k-read-checks .read-checks .ensures) (c .before .enum-told .given .1) in
+    c .valid-status .ensures ∙ ap (λ o. sequenceOf o (lastOf (a .book .status))) (sym (first-on _ _ _ _ h refl))
 
 pub valid-book-spec : {M : Type 1} → statement M
 valid-book-spec =

@@ -1,18 +1,18 @@
-use Rattle.reconstructor_view.specs.View.{viewed}
+use Rattle.reconstructor_view.specs.ValueReads.{sequenceOf}
 use borrow.Author.Needs.{needs}
 use Rattle.reconstructor_view.proofs.valid_status.Statement.{statement}
 use Rattle.reconstructor_view.proofs.valid_status.Tie as tie
 
 returns : tie.Need-returns
-unfolding viewed
+unfolding sequenceOf
 returns c = rw (c .enum-told .given .1)
 
 returns-2 : tie.Need-returns-2
-unfolding viewed
+unfolding sequenceOf
 returns-2 c = rw (c .before .status .given .1)
 
 returns-3 : tie.Need-returns-3
-unfolding viewed
+unfolding sequenceOf
 returns-3 c = rw (c .before .status2 .given .1)
 
 pub valid-status-spec : {M : Type 1} → statement M
