@@ -1,6 +1,6 @@
 -- What is known of the words once a call goes past the boundary; and the words that a message or a state is written as go past it.
 -- Assumes nothing.
-use Prim.Native.Nat.{ℕ, _*_, _≤_}
+use Prim.Native.Nat.{ℕ, _≤_}
 use mathlib.Core.Path.{_≡_, refl, sym, _∙_}
 use mathlib.Core.Bool.{Bool, true, false, _||_, cond}
 use mathlib.Core.List.{List}
@@ -8,17 +8,18 @@ use borrow.Author.Tests.{ltb-false, le-ltb, eq-eqb, ne-eqb}
 use lib.Dec.{eqb, ltb}
 use lib.ListN.{length}
 use Rattle.laws.proofs.Bools.{or-no, absurd-bool}
-use Rattle.book.specs.Rows.{ceiling}
+use Rattle.book.specs.Memory.{Extent}
 use Rattle.reconstructor_state.specs.declared.VenueRules.{VenueRules}
-use Rattle.reconstructor_checks.specs.Own.{overCeiling}
+use Rattle.reconstructor_state.specs.State.{ceiling}
+use Rattle.reconstructor_checks.specs.Own.{overCeiling, memoryShort}
 use Rattle.host_words.specs.Block.{rulesOf}
 use Rattle.host_boundary.specs.Boundary.{noBook, noBookNumber, shortInput, boundary, ownBoundary, unlessTurned}
 
 -- ---- past the boundary
 
-numbered : (v : VenueRules) (rows : ℕ) (less : Bool) → eqb (noBookNumber v rows less) 0 ≡ false
+numbered : (top : ℕ) (v : VenueRules) (lent : Extent) (less : Bool) → eqb (noBookNumber top v lent less) 0 ≡ false
 unfolding noBookNumber
-numbered v rows less = go (overCeiling ceiling v) (ltb rows (8 * v .«max_orders») || less)
+numbered top v lent less = go (overCeiling top v) (memoryShort v lent || less)
   where
     go : (x y : Bool) → eqb (cond x 1 (cond y 2 3)) 0 ≡ false
     go true y = refl
@@ -37,23 +38,23 @@ pub record Passed (st : List ℕ) (short wrong : Bool) : Type 0 where
   pub right : wrong ≡ false
   pub book : noBook st ≡ false
 
-module _ (st : List ℕ) (rows : ℕ) (less short wrong : Bool) where
-  pub passed : eqb (boundary st rows less short wrong) 0 ≡ true → Passed st short wrong
+module _ (st : List ℕ) (lent : Extent) (less short wrong : Bool) where
+  pub passed : eqb (boundary st lent less short wrong) 0 ≡ true → Passed st short wrong
   unfolding boundary
   passed h =
-      let p = past (ltb (length st) 27 || short) wrong (noBook st) (noBookNumber (rulesOf st) rows less) (numbered (rulesOf st) rows less) h in
+      let p = past (ltb (length st) 27 || short) wrong (noBook st) (noBookNumber ceiling (rulesOf st) lent less) (numbered ceiling (rulesOf st) lent less) h in
       let both = or-no (ltb (length st) 27) short (p .0) in
       record { whole = ltb-false (length st) 27 (both .0); full = both .1; right = p .1; book = p .2 }
 
-  pub passes : Passed st short wrong → boundary st rows less short wrong ≡ 0
+  pub passes : Passed st short wrong → boundary st lent less short wrong ≡ 0
   unfolding boundary
   passes p = rw (le-ltb (length st) 27 (p .whole), p .full, p .right, p .book)
 
   -- by what the words are turned away for
-  pub by-boundary : (P : ℕ → Type 0) → P shortInput → P 4 → P 1 → P 2 → P 3 → (Passed st short wrong → P 0) → P (boundary st rows less short wrong)
+  pub by-boundary : (P : ℕ → Type 0) → P shortInput → P 4 → P 1 → P 2 → P 3 → (Passed st short wrong → P 0) → P (boundary st lent less short wrong)
   unfolding boundary noBookNumber
   by-boundary P a b c d e f =
-      go (ltb (length st) 27 || short) wrong (noBook st) (overCeiling ceiling (rulesOf st)) (ltb rows (8 * rulesOf st .«max_orders») || less) refl refl refl
+      go (ltb (length st) 27 || short) wrong (noBook st) (overCeiling ceiling (rulesOf st)) (memoryShort (rulesOf st) lent || less) refl refl refl
     where
       go : (x y z u v : Bool) → (ltb (length st) 27 || short) ≡ x → wrong ≡ y → noBook st ≡ z → P (cond x shortInput (cond y 4 (cond z (cond u 1 (cond v 2 3)) 0)))
       go true y z u v p q r = a
@@ -80,6 +81,6 @@ pub goes-on : {A : Type 0} (k n : ℕ) (away : ℕ → A) (a x : A) → k ≡ n 
 goes-on k n away a x e z h = rw (← e, eq-eqb k 0 z) h
 
 -- words that no value has
-pub wrong-number : (st : List ℕ) (rows : ℕ) (less : Bool) → 27 ≤ length st → boundary st rows less false true ≡ 4
+pub wrong-number : (st : List ℕ) (lent : Extent) (less : Bool) → 27 ≤ length st → boundary st lent less false true ≡ 4
 unfolding boundary
-wrong-number st rows less whole = rw (le-ltb (length st) 27 whole)
+wrong-number st lent less whole = rw (le-ltb (length st) 27 whole)

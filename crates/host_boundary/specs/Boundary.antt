@@ -4,15 +4,16 @@
 --   4    a kind, side, reason, presence, flag or number that no message, handshake, estimate or side has, as bytes may be no piece
 --   3    a state block whose size_decrease, status or reason no book has: the words lent are no book. After 1 and 2, where the call is lent rows
 -- Then nothing is touched. The layouts are in Block.antt of `host_words`, and beside the values; words that no field names do not matter.
-use Prim.Native.Nat.{ℕ, _*_}
+use Prim.Native.Nat.{ℕ}
 use mathlib.Core.Bool.{Bool, true, _||_, _&&_, cond}
 use mathlib.Core.List.{List}
 use lib.Dec.{eqb, ltb}
 use lib.ListN.{length, getD}
-use Rattle.book.specs.Rows.{ceiling}
+use Rattle.book.specs.Memory.{Extent}
 use Rattle.reconstructor_state.specs.declared.VenueRules.{VenueRules}
-use Rattle.reconstructor_checks.specs.Own.{overCeiling}
-use Rattle.host_words.specs.Block.{rulesOf}
+use Rattle.reconstructor_state.specs.State.{ceiling}
+use Rattle.reconstructor_checks.specs.Own.{overCeiling, memoryShort}
+use Rattle.host_words.specs.Block.{stateWords, rulesOf}
 
 abbrev pub shortInput : ℕ
 shortInput = 768
@@ -57,20 +58,20 @@ noReason k detail = cond (eqb k 38) (noBit detail) (ltb k 20 || ((ltb 22 k && lt
 unfoldable pub noBook : List ℕ → Bool
 noBook st = noBit (getD st 2 0) || (ltb 2 (getD st 6 0) || (eqb (getD st 6 0) 2 && noReason (getD st 9 0) (getD st 12 0)))
 
--- 1, 2, then 3; `less` says that scratch is under max_orders, or the list shorter than the segment count
-unfoldable pub noBookNumber : VenueRules → ℕ → Bool → ℕ
-noBookNumber v rows less = cond (overCeiling ceiling v) 1 (cond (ltb rows (8 * v .«max_orders») || less) 2 3)
+-- 1, 2, then 3, the ceiling being an argument; `less` says that scratch is under max_orders, or the list shorter than the segment count
+unfoldable pub noBookNumber : ℕ → VenueRules → Extent → Bool → ℕ
+noBookNumber top v lent less = cond (overCeiling top v) 1 (cond (memoryShort v lent || less) 2 3)
 
 -- ---- in turn
 
--- the number, or 0 where the words stand for values. `short` says that another input is too short, `wrong` that its words are those of no value
-unfoldable pub boundary : List ℕ → ℕ → Bool → Bool → Bool → ℕ
-boundary st rows less short wrong =
-    cond (ltb (length st) 27 || short) shortInput (cond wrong 4 (cond (noBook st) (noBookNumber (rulesOf st) rows less) 0))
+-- the number, or 0 where the words stand for values, of a call that is lent so much memory. `short` says that another input is too short, `wrong` that its words are those of no value
+unfoldable pub boundary : List ℕ → Extent → Bool → Bool → Bool → ℕ
+boundary st lent less short wrong =
+    cond (ltb (length st) stateWords || short) shortInput (cond wrong 4 (cond (noBook st) (noBookNumber ceiling (rulesOf st) lent less) 0))
 
 -- of a call that is lent no rows, and tells the state's own fields or the list's: 1 and 2 do not arise there
 unfoldable pub ownBoundary : List ℕ → ℕ
-ownBoundary st = cond (ltb (length st) 27) shortInput (cond (noBook st) 3 0)
+ownBoundary st = cond (ltb (length st) stateWords) shortInput (cond (noBook st) 3 0)
 
 -- what a call comes to: what it is turned away with, or else
 abbrev pub unlessTurned : {A : Type 0} → ℕ → (ℕ → A) → A → A

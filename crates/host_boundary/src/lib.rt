@@ -1,11 +1,16 @@
 // What the words of an exported call are turned away for before the rules are worked: 768, 4, and 3 of a state block that is no book's. specs/Boundary.antt says when.
+use host_words::STATE_WORDS;
 use host_words::load_rules;
 use reconstructor_state::VenueRules;
 ghost use mathlib.Core.Path.{_≡_};
-ghost use Prim.Native.Nat.{_/_};
+ghost use Prim.Native.Nat.{_≤_};
 ghost use lib.Dec.{ltb};
 ghost use lib.ListN.{getD};
+ghost use Rattle.book.specs.Rows.{mostRows};
 ghost use Rattle.host_boundary.specs.Boundary.{noBit, noDone, noChange, noMessage, noHandshake, noEstimate, noReason, noBook, noBookNumber, boundary, ownBoundary};
+
+// An input of fixed size is lent shorter than it is.
+pub const SHORT_INPUT: u64 = 768;
 
 // The word at a place; 0 past the end.
 fn word(words: &[u64], i: usize) -> u64
@@ -86,23 +91,24 @@ fn no_book(words: &[u64]) -> bool
     (word(words, 2) > 1) | ((status > 2) | ((status == 2) & reasonless))
 }
 
-fn no_book_number(rules: VenueRules, rows: usize, less: bool) -> u64
-    ensures { λ r. ⌜ r ≡ noBookNumber rules rows less ⌝ }
+fn no_book_number(top: usize, rules: VenueRules, rows: usize, less: bool) -> u64
+    requires { ⌜ top ≤ mostRows ⌝ }
+    ensures { λ r. ⌜ r ≡ noBookNumber top rules (record { rows = rows }) less ⌝ }
 {
-    if reconstructor_checks::over_ceiling(rules) {
+    if reconstructor_checks::over_ceiling(top, rules) {
         return 1;
     }
-    if (rows < 8 * rules.max_orders) | less {
+    if (rows < book::ROW_WORDS * rules.max_orders) | less {
         return 2;
     }
     3
 }
 
-// Whether a segment list of so many words is shorter than the state's count.
-pub fn list_short(state: &[u64], segments: usize) -> bool
-    ensures { λ r. ⌜ r ≡ ltb (segments / 8) (getD (now (state .entry)) 14 0) ⌝ }
+// Whether a segment list of so many records is shorter than the state's count.
+pub fn list_short(state: &[u64], lent: usize) -> bool
+    ensures { λ r. ⌜ r ≡ ltb lent (getD (now (state .entry)) 14 0) ⌝ }
 {
-    ((segments / 8) as u64) < word(state, 14)
+    (lent as u64) < word(state, 14)
 }
 
 // Whether scratch of so many words is shorter than the state's limit of orders.
@@ -115,10 +121,10 @@ pub fn scratch_short(state: &[u64], scratch: usize) -> bool
 // The number that a call with so many words of rows is turned away with, or 0. `less` says that its list or scratch is too short, `short` and `wrong` that its other
 // inputs are too short or are those of no value.
 pub fn boundary(state: &[u64], rows: usize, less: bool, short: bool, wrong: bool) -> u64
-    ensures { λ r. ⌜ r ≡ boundary (now (state .entry)) rows less short wrong ⌝ }
+    ensures { λ r. ⌜ r ≡ boundary (now (state .entry)) (record { rows = rows }) less short wrong ⌝ }
 {
-    if (state.len() < 27) | short {
-        return 768;
+    if (state.len() < STATE_WORDS) | short {
+        return SHORT_INPUT;
     }
     if wrong {
         return 4;
@@ -126,15 +132,15 @@ pub fn boundary(state: &[u64], rows: usize, less: bool, short: bool, wrong: bool
     if !no_book(state) {
         return 0;
     }
-    no_book_number(load_rules(state), rows, less)
+    no_book_number(VenueRules::CEILING, load_rules(state), rows, less)
 }
 
 // The same of a call that is lent the state alone.
 pub fn own_boundary(state: &[u64]) -> u64
     ensures { λ r. ⌜ r ≡ ownBoundary (now (state .entry)) ⌝ }
 {
-    if state.len() < 27 {
-        return 768;
+    if state.len() < STATE_WORDS {
+        return SHORT_INPUT;
     }
     if no_book(state) {
         return 3;

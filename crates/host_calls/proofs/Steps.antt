@@ -10,20 +10,23 @@ use lib.Dec.{eqb, ltb}
 use lib.ListN.{length}
 use Rattle.message.specs.declared.L3Message.{L3Message}
 use Rattle.message.specs.Values.{eventInRange}
-use Rattle.book.specs.Rows.{ceiling}
+use Rattle.book.specs.Memory.{memory, extentOf}
 use Rattle.reconstructor_answers.specs.declared.Applied.the-variants.{BookChanged, NoBookEffect}
 use Rattle.reconstructor_answers.specs.declared.StateError.{StateError}
 use Rattle.reconstructor_answers.specs.declared.StateError.the-variants.{LimitAboveCeiling, LentTooShort, MalformedBook}
 use Rattle.reconstructor_answers.specs.declared.ApplyAnswer.{ApplyAnswer}
 use Rattle.reconstructor_answers.specs.declared.ApplyAnswer.the-variants as answers
-use Rattle.reconstructor_counts.specs.Counts.{countedAt}
+use Rattle.reconstructor_counts.specs.declared.Counter.the-variants.{HandshakeDropped}
+use Rattle.reconstructor_counts.specs.Counts.{counted as countedIn}
+use Rattle.reconstructor_segments.specs.declared.Segment.{Segment}
+use Rattle.reconstructor_segments.specs.Segments.{lastSegment, relast}
 use Rattle.reconstructor_state.specs.Checks.{check, first}
-use Rattle.reconstructor_state.specs.State.{viewOf, lengthsOf, segmentOf}
+use Rattle.reconstructor_state.specs.State.{ceiling, viewWith, lengthsWith, segmentOf}
 use Rattle.reconstructor_checks.specs.Own.{stateRefusal, broken}
-use Rattle.reconstructor.specs.Applied.{applied}
+use Rattle.reconstructor.specs.Applied.{appliedTo, applied}
 use Rattle.reconstructor_handshake.specs.declared.StepAnswer.{StepAnswer}
 use Rattle.reconstructor_handshake.specs.declared.StepAnswer.the-variants.{Stepped, OtherSegment}
-use Rattle.reconstructor_handshake.specs.Step.{otherSegment, drops, with, after, decided, dropped, stepRefusal, settledStep, stepped, StepParts}
+use Rattle.reconstructor_handshake.specs.Step.{otherSegment, drops, with, after, decided, dropped, stepRefusal, unlessRefused, StepWorked, putBack, steppedTo, stepped}
 use Rattle.host_records.specs.Records.{recordsOf, relaid}
 use Rattle.reconstructor_answers.specs.Numbers.{answerNumber}
 use Rattle.host_words.specs.Block.{bookOf, messageOf, restored}
@@ -32,12 +35,11 @@ use Rattle.host_boundary.proofs.Passed.{Passed, passes, by-boundary}
 use Rattle.host_handshake.specs.Steps.{handshakeOf, handshakeLeft, stepSets}
 use Rattle.host_calls.specs.Calls.{Call, StepCall, stepCalled, afterStep, stepCall}
 use Rattle.laws.proofs.Bools.{absurd-bool, or-no}
-use Rattle.host_records.proofs.Records.{relaid-same}
 use Rattle.host_words.proofs.Blocks.{block-same, raised, raised-dropped}
 use Rattle.host_words.proofs.RoundTrip.{block-back}
 use Rattle.host_handshake.proofs.Words.{handshake-back, handshake-same}
 use Rattle.host_words.proofs.Lent.{lent-two}
-use Rattle.host_calls.proofs.Blocks.{acts, counted, applied-words, less, applied-state}
+use Rattle.host_calls.proofs.Blocks.{acts, counted, relaid-last, applied-words, less, applied-state}
 
 -- a number is a refusal's unless it is that of a message applied, dropped or invalidating
 abbrev pub stepActs : ℕ → Bool
@@ -76,25 +78,32 @@ not-dropped (answers.Invalidated i) = refl
 not-dropped (answers.AwaitingSnapshot i) = refl
 
 -- a step on words that are long enough, by what refuses it and whether it drops
-module _ (st ws sg hs : List ℕ) (m : L3Message) (long : 27 ≤ length st) (full : 4 ≤ length hs) (bit : noHandshake hs ≡ false) where
+module _ (top : ℕ) (st ws sg hs : List ℕ) (m : L3Message) (long : 27 ≤ length st) (full : 4 ≤ length hs) (bit : noHandshake hs ≡ false) where
+  abbrev last : Segment
+  last = lastSegment (recordsOf sg) (bookOf st .segments)
+
   abbrev gate : Option StateError → Bool → Bool → Option StepAnswer
   gate o x y = first o (λ (e : StateError). Stepped (answers.Unusable e)) (check x OtherSegment (check y (Stepped answers.AmountOutOfRange) none))
 
-  abbrev left : Option StepAnswer → Bool → StepParts
-  left o d =
-      settledStep o (cond d (dropped (handshakeOf hs) (bookOf st) ws (recordsOf sg)) (decided (handshakeOf hs) (applied ceiling (bookOf st) ws (recordsOf sg) m)))
+  abbrev worked : Option StepAnswer → Bool → StepWorked
+  worked o d =
+      unlessRefused o
+      (cond d (dropped (handshakeOf hs) (bookOf st) (memory ws) last) (decided (handshakeOf hs) (appliedTo top (bookOf st) (memory ws) (length (recordsOf sg)) last m)))
       (handshakeOf hs)
       (bookOf st)
-      ws
-      (recordsOf sg)
+      (memory ws)
+      last
+
+  abbrev left : Option StepAnswer → Bool → StepCall
+  left o d = afterStep st sg hs (putBack (recordsOf sg) (bookOf st .segments) (worked o d))
 
   -- a refusal that no `apply` has decided
-  kept : (k : ℕ) → stepCalled k (restored st false (bookOf st)) ws (relaid sg (recordsOf sg)) (handshakeLeft hs (handshakeOf hs)) ≡ stepCalled k st ws sg hs
-  kept k = rw (block-same st long, relaid-same sg, handshake-same hs full bit)
+  kept : (k : ℕ) → stepCalled k (restored st false (bookOf st)) ws (relaid sg (relast (recordsOf sg) (bookOf st .segments) last)) (handshakeLeft hs (handshakeOf hs)) ≡ stepCalled k st ws sg hs
+  kept k = rw (block-same st long, relaid-last sg (bookOf st .segments), handshake-same hs full bit)
 
-  left-refused : (o : Option StateError) (x y d : Bool) → stepActs (afterStep st sg hs (left (gate o x y) d) .number) ≡ false
-      → afterStep st sg hs (left (gate o x y) d) ≡ stepLeaves (afterStep st sg hs (left (gate o x y) d) .number) st ws sg hs
-  unfolding settledStep first check
+  left-refused : (o : Option StateError) (x y d : Bool) → stepActs (left (gate o x y) d .number) ≡ false
+      → left (gate o x y) d ≡ stepLeaves (left (gate o x y) d .number) st ws sg hs
+  unfolding unlessRefused first check applied
   left-refused (some LimitAboveCeiling) x y d h = kept 1
   left-refused (some LentTooShort) x y d h = kept 2
   left-refused (some MalformedBook) x y d h = kept 3
@@ -102,39 +111,41 @@ module _ (st ws sg hs : List ℕ) (m : L3Message) (long : 27 ≤ length st) (ful
   left-refused none false true d h = kept 5
   left-refused none false false true h = absurd-bool h
   left-refused none false false false h =
-      let p = applied ceiling (bookOf st) ws (recordsOf sg) m in
-      let refused = or-no (acts (answerNumber (p .answer))) (eqb (answerNumber (p .answer)) 512) h .0 in
-      ap (λ (c : Call). stepCalled (c .number) (c .state) (c .rows) (c .segments) (handshakeLeft hs (after (handshakeOf hs) (p .answer)))) (applied-words st ws sg m long refused) ∙
-      ap (stepCalled (answerNumber (p .answer)) (counted (answerNumber (p .answer)) st) ws sg) (after-words hs (p .answer) full bit refused)
+      let a = applied top (bookOf st) (memory ws) (recordsOf sg) m .answer in
+      let refused = or-no (acts (answerNumber a)) (eqb (answerNumber a) 512) h .0 in
+      ap (λ (c : Call). stepCalled (c .number) (c .state) (c .rows) (c .segments) (handshakeLeft hs (after (handshakeOf hs) a))) (applied-words st ws sg m long top refused) ∙
+      ap (stepCalled (answerNumber a) (counted (answerNumber a) st) ws sg) (after-words hs a full bit refused)
 
-  left-dropped : (o : Option StateError) (x y d : Bool) → eqb (afterStep st sg hs (left (gate o x y) d) .number) 512 ≡ true
-      → afterStep st sg hs (left (gate o x y) d) ≡ stepCalled 512 (raised st 23) ws sg hs
-  unfolding settledStep first check
+  left-dropped : (o : Option StateError) (x y d : Bool) → eqb (left (gate o x y) d .number) 512 ≡ true → left (gate o x y) d ≡ stepCalled 512 (raised st 23) ws sg hs
+  unfolding unlessRefused first check
   left-dropped (some LimitAboveCeiling) x y d h = absurd-bool (sym h)
   left-dropped (some LentTooShort) x y d h = absurd-bool (sym h)
   left-dropped (some MalformedBook) x y d h = absurd-bool (sym h)
   left-dropped none true y d h = absurd-bool (sym h)
   left-dropped none false true d h = absurd-bool (sym h)
-  left-dropped none false false true h = rw (raised-dropped st long, relaid-same sg, handshake-same hs full bit)
-  left-dropped none false false false h = absurd-bool (sym h ∙ not-dropped (applied ceiling (bookOf st) ws (recordsOf sg) m .answer))
+  left-dropped none false false true h = rw (raised-dropped st long, relaid-last sg (bookOf st .segments), handshake-same hs full bit)
+  left-dropped none false false false h = absurd-bool (sym h ∙ not-dropped (appliedTo top (bookOf st) (memory ws) (length (recordsOf sg)) last m .answer))
 
-  left-state : (o : Option StepAnswer) (d : Bool) → bookOf (afterStep st sg hs (left o d) .state) ≡ left o d .book
-  unfolding settledStep
+  left-state : (o : Option StepAnswer) (d : Bool) → bookOf (left o d .state) ≡ worked o d .book
+  unfolding unlessRefused applied
   left-state (some a) d =
       let b = bookOf st in
       block-back st (stepSets a) (b .status) (b .rows) (b .segments) (b .counts) long (λ e. refl)
   left-state none true =
       let b = bookOf st in
-      block-back st false (b .status) (b .rows) (b .segments) (countedAt 8 (b .counts)) long (λ e. refl)
-  left-state none false = applied-state st ws sg m long
+      block-back st false (b .status) (b .rows) (b .segments) (countedIn (b .counts) HandshakeDropped) long (λ e. refl)
+  left-state none false = applied-state st ws sg m long top
 
 -- 01's checks on a state
 abbrev stateOf : List ℕ → List ℕ → List ℕ → Option StateError
 stateOf st ws sg =
     let b = bookOf st in
-    stateRefusal ceiling (b .rules) (lengthsOf ws (recordsOf sg)) (broken b ws) (b .segments)
+    stateRefusal ceiling (b .rules) (lengthsWith (memory ws) (length (recordsOf sg))) (broken b (memory ws)) (b .segments)
 
 module _ (st ws sg hs m : List ℕ) where
+  abbrev lastOne : Segment
+  lastOne = lastSegment (recordsOf sg) (bookOf st .segments)
+
   abbrev other : Bool
   other = otherSegment (handshakeOf hs) (segmentOf (bookOf st)) (bookOf st .segments)
 
@@ -142,7 +153,7 @@ module _ (st ws sg hs m : List ℕ) where
   far = not (eventInRange (messageOf m .event))
 
   abbrev old : Bool
-  old = drops (bookOf st .«product_id») (viewOf (bookOf st) ws (recordsOf sg) .startSeq) (messageOf m)
+  old = drops (bookOf st .«product_id») (lastOne .«start_seq») (messageOf m)
 
   -- what is asked of the other inputs
   abbrev short : Bool
@@ -153,38 +164,38 @@ module _ (st ws sg hs m : List ℕ) where
 
   abbrev leftBy : ℕ → StepCall
   leftBy k =
-      unlessTurned k (λ (n : ℕ). stepCalled n st ws sg hs) (afterStep st sg hs (stepped ceiling (handshakeOf hs) (bookOf st) ws (recordsOf sg) (messageOf m)))
+      unlessTurned k (λ (n : ℕ). stepCalled n st ws sg hs) (afterStep st sg hs (stepped ceiling (handshakeOf hs) (bookOf st) (memory ws) (recordsOf sg) (messageOf m)))
 
   by-refused : Passed st short wrong → stepActs (leftBy 0 .number) ≡ false → leftBy 0 ≡ stepLeaves (leftBy 0 .number) st ws sg hs
-  unfolding stepped stepRefusal
+  unfolding stepped steppedTo stepRefusal
   by-refused p h =
-      left-refused st ws sg hs (messageOf m) (p .whole) (lent-two hs 4 m 21 (p .full) .0) (or-no (noHandshake hs) (noMessage m) (p .right) .0) (stateOf st ws sg) other far old h
+      left-refused ceiling st ws sg hs (messageOf m) (p .whole) (lent-two hs 4 m 21 (p .full) .0) (or-no (noHandshake hs) (noMessage m) (p .right) .0) (stateOf st ws sg) other far old h
 
   pub step-refused : stepActs (stepCall st ws sg hs m .number) ≡ false → stepCall st ws sg hs m ≡ stepLeaves (stepCall st ws sg hs m .number) st ws sg hs
   unfolding stepCall
   step-refused =
-      by-boundary st (length ws) (less st sg) short wrong
+      by-boundary st (extentOf (memory ws)) (less st sg) short wrong
       (λ (k : ℕ). stepActs (leftBy k .number) ≡ false → leftBy k ≡ stepLeaves (leftBy k .number) st ws sg hs)
       (λ h. refl) (λ h. refl) (λ h. refl) (λ h. refl) (λ h. refl) by-refused
 
   by-dropped : Passed st short wrong → eqb (leftBy 0 .number) 512 ≡ true → leftBy 0 ≡ stepCalled 512 (raised st 23) ws sg hs
-  unfolding stepped stepRefusal
+  unfolding stepped steppedTo stepRefusal
   by-dropped p h =
-      left-dropped st ws sg hs (messageOf m) (p .whole) (lent-two hs 4 m 21 (p .full) .0) (or-no (noHandshake hs) (noMessage m) (p .right) .0) (stateOf st ws sg) other far old h
+      left-dropped ceiling st ws sg hs (messageOf m) (p .whole) (lent-two hs 4 m 21 (p .full) .0) (or-no (noHandshake hs) (noMessage m) (p .right) .0) (stateOf st ws sg) other far old h
 
   pub step-dropped : eqb (stepCall st ws sg hs m .number) 512 ≡ true → stepCall st ws sg hs m ≡ stepCalled 512 (raised st 23) ws sg hs
   unfolding stepCall
   step-dropped =
-      by-boundary st (length ws) (less st sg) short wrong (λ (k : ℕ). eqb (leftBy k .number) 512 ≡ true → leftBy k ≡ stepCalled 512 (raised st 23) ws sg hs)
+      by-boundary st (extentOf (memory ws)) (less st sg) short wrong (λ (k : ℕ). eqb (leftBy k .number) 512 ≡ true → leftBy k ≡ stepCalled 512 (raised st 23) ws sg hs)
       (λ h. absurd-bool (sym h)) (λ h. absurd-bool (sym h)) (λ h. absurd-bool (sym h)) (λ h. absurd-bool (sym h)) (λ h. absurd-bool (sym h)) by-dropped
 
   module _ (p : Passed st short wrong) where
-    pub step-state : bookOf (stepCall st ws sg hs m .state) ≡ stepped ceiling (handshakeOf hs) (bookOf st) ws (recordsOf sg) (messageOf m) .book
-    unfolding stepCall stepped
+    pub step-state : bookOf (stepCall st ws sg hs m .state) ≡ stepped ceiling (handshakeOf hs) (bookOf st) (memory ws) (recordsOf sg) (messageOf m) .book
+    unfolding stepCall stepped steppedTo
     step-state =
-        rw (passes st (length ws) (less st sg) short wrong p)
-        (left-state st ws sg hs (messageOf m) (p .whole) (lent-two hs 4 m 21 (p .full) .0) (or-no (noHandshake hs) (noMessage m) (p .right) .0) (stepRefusal ceiling (bookOf st .rules) (lengthsOf ws (recordsOf sg)) (broken (bookOf st) ws) (viewOf (bookOf st) ws (recordsOf sg)) (segmentOf (bookOf st)) (handshakeOf hs) (messageOf m)) old)
+        rw (passes st (extentOf (memory ws)) (less st sg) short wrong p)
+        (left-state ceiling st ws sg hs (messageOf m) (p .whole) (lent-two hs 4 m 21 (p .full) .0) (or-no (noHandshake hs) (noMessage m) (p .right) .0) (stepRefusal ceiling (bookOf st .rules) (lengthsWith (memory ws) (length (recordsOf sg))) (broken (bookOf st) (memory ws)) (viewWith (bookOf st) (memory ws) lastOne) (segmentOf (bookOf st)) (handshakeOf hs) (messageOf m)) old)
 
-    pub step-handshake : handshakeOf (stepCall st ws sg hs m .handshake) ≡ stepped ceiling (handshakeOf hs) (bookOf st) ws (recordsOf sg) (messageOf m) .handshake
+    pub step-handshake : handshakeOf (stepCall st ws sg hs m .handshake) ≡ stepped ceiling (handshakeOf hs) (bookOf st) (memory ws) (recordsOf sg) (messageOf m) .handshake
     unfolding stepCall
-    step-handshake = rw (passes st (length ws) (less st sg) short wrong p) (handshake-back hs _)
+    step-handshake = rw (passes st (extentOf (memory ws)) (less st sg) short wrong p) (handshake-back hs _)

@@ -1,21 +1,22 @@
 -- The exported calls on a book: what a call answers and leaves.
-use Prim.Native.Nat.{ℕ, _/_}
+use Prim.Native.Nat.{ℕ}
 use mathlib.Core.List.{List}
 use mathlib.Core.Bool.{Bool, false, cond, _||_}
 use lib.Dec.{eqb, ltb}
 use lib.ListN.{length, getD}
-use Rattle.book.specs.Rows.{ceiling}
-use Rattle.host_records.specs.Records.{recordsOf, relaid}
+use Rattle.piece.specs.Words.{messageWords}
+use Rattle.book.specs.Memory.{memory, extentOf}
+use Rattle.host_records.specs.Records.{recordsIn, recordsOf, relaid}
 use Rattle.reconstructor_answers.specs.Numbers.{answerTold}
 use Rattle.host_words.specs.Block.{bookOf, restored, messageOf, setsStatus}
 use Rattle.host_boundary.specs.Boundary.{noMessage, noHandshake, boundary, ownBoundary, unlessTurned}
 use Rattle.reconstructor.specs.Applied.{Parts, applied}
 use Rattle.reconstructor_bootstrap.specs.Numbers.{snapshotTold}
 use Rattle.reconstructor_bootstrap.specs.Bootstrap.{Parts as SnapshotParts, bootstrapped}
-use Rattle.reconstructor_state.specs.State.{segmentOf}
+use Rattle.reconstructor_state.specs.State.{ceiling, segmentOf}
 use Rattle.reconstructor_handshake.specs.Step.{StepParts, stepTold, newHandshake, stepped}
 use Rattle.host_reads.specs.Answers.{Answered, answered}
-use Rattle.host_handshake.specs.Steps.{handshakeOf, handshakeLeft, stepSets}
+use Rattle.host_handshake.specs.Steps.{handshakeWords, handshakeOf, handshakeLeft, stepSets}
 
 -- the answer, and the lent words afterwards
 pub record Call : Type 0 where
@@ -30,34 +31,34 @@ called k st ws sg = record { number = k; state = st; rows = ws; segments = sg }
 -- what the rules leave, written back
 abbrev pub afterApply : List ℕ → List ℕ → Parts → Call
 afterApply st sg p =
-    called (answerTold (p .answer) .number) (restored st (setsStatus (p .answer)) (p .book)) (p .rows) (relaid sg (p .segments))
+    called (answerTold (p .answer) .number) (restored st (setsStatus (p .answer)) (p .book)) (p .memory .rows) (relaid sg (p .segments))
 
 -- 0 is the one answer that sets the status
 abbrev pub afterBootstrap : List ℕ → List ℕ → SnapshotParts → Call
 afterBootstrap st sg p =
-    called (snapshotTold (p .answer) .number) (restored st (eqb (snapshotTold (p .answer) .number) 0) (p .book)) (p .rows) (relaid sg (p .segments))
+    called (snapshotTold (p .answer) .number) (restored st (eqb (snapshotTold (p .answer) .number) 0) (p .book)) (p .memory .rows) (relaid sg (p .segments))
 
 -- what the words are turned away for; a list of whole records
 abbrev pub callBoundary : List ℕ → List ℕ → List ℕ → Bool → Bool → ℕ
-callBoundary st ws sg short wrong = boundary st (length ws) (ltb (length sg / 8) (getD st 14 0)) short wrong
+callBoundary st ws sg short wrong = boundary st (extentOf (memory ws)) (ltb (recordsIn sg) (getD st 14 0)) short wrong
 
 unfoldable pub applyCall : List ℕ → List ℕ → List ℕ → List ℕ → Call
 applyCall st ws sg m =
-    unlessTurned (callBoundary st ws sg (ltb (length m) 21) (noMessage m)) (λ (k : ℕ). called k st ws sg)
-    (afterApply st sg (applied ceiling (bookOf st) ws (recordsOf sg) (messageOf m)))
+    unlessTurned (callBoundary st ws sg (ltb (length m) messageWords) (noMessage m)) (λ (k : ℕ). called k st ws sg)
+    (afterApply st sg (applied ceiling (bookOf st) (memory ws) (recordsOf sg) (messageOf m)))
 
 unfoldable pub bootstrapCall : List ℕ → List ℕ → List ℕ → List ℕ → Call
 bootstrapCall st ws sg bytes =
     unlessTurned (callBoundary st ws sg false false) (λ (k : ℕ). called k st ws sg)
-    (afterBootstrap st sg (bootstrapped ceiling (bookOf st) ws (recordsOf sg) bytes))
+    (afterBootstrap st sg (bootstrapped ceiling (bookOf st) (memory ws) (recordsOf sg) bytes))
 
 -- ---- handshakes
 
--- 7: fewer than 4 words
+-- 7: fewer words than a handshake's
 unfoldable pub handshakeCall : List ℕ → List ℕ → Answered
 handshakeCall st hs =
     unlessTurned (ownBoundary st) (λ (k : ℕ). answered k hs)
-    (cond (ltb (length hs) 4) (answered 7 hs) (answered 0 (handshakeLeft hs (newHandshake (segmentOf (bookOf st)) (bookOf st .segments)))))
+    (cond (ltb (length hs) handshakeWords) (answered 7 hs) (answered 0 (handshakeLeft hs (newHandshake (segmentOf (bookOf st)) (bookOf st .segments)))))
 
 pub record StepCall : Type 0 where
   pub number : ℕ
@@ -71,10 +72,10 @@ stepCalled k st ws sg hs = record { number = k; state = st; rows = ws; segments 
 
 abbrev pub afterStep : List ℕ → List ℕ → List ℕ → StepParts → StepCall
 afterStep st sg hs p =
-    stepCalled (stepTold (p .answer) .number) (restored st (stepSets (p .answer)) (p .book)) (p .rows) (relaid sg (p .segments))
+    stepCalled (stepTold (p .answer) .number) (restored st (stepSets (p .answer)) (p .book)) (p .memory .rows) (relaid sg (p .segments))
     (handshakeLeft hs (p .handshake))
 
 unfoldable pub stepCall : List ℕ → List ℕ → List ℕ → List ℕ → List ℕ → StepCall
 stepCall st ws sg hs m =
-    unlessTurned (callBoundary st ws sg (ltb (length hs) 4 || ltb (length m) 21) (noHandshake hs || noMessage m)) (λ (k : ℕ). stepCalled k st ws sg hs)
-    (afterStep st sg hs (stepped ceiling (handshakeOf hs) (bookOf st) ws (recordsOf sg) (messageOf m)))
+    unlessTurned (callBoundary st ws sg (ltb (length hs) handshakeWords || ltb (length m) messageWords) (noHandshake hs || noMessage m)) (λ (k : ℕ). stepCalled k st ws sg hs)
+    (afterStep st sg hs (stepped ceiling (handshakeOf hs) (bookOf st) (memory ws) (recordsOf sg) (messageOf m)))

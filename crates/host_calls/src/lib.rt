@@ -5,16 +5,19 @@ use host_boundary::list_short;
 use host_boundary::no_handshake;
 use host_boundary::no_message;
 use host_boundary::own_boundary;
+use host_handshake::HANDSHAKE_WORDS;
 use host_handshake::load_handshake;
 use host_handshake::step_sets_status;
 use host_handshake::store_handshake;
 use host_messages::load_message;
+use host_records::RECORD_WORDS;
 use host_records::last_record;
 use host_records::put_record;
 use host_records::rewrite_record;
 use host_words::load_book;
 use host_words::sets_status;
 use host_words::store_book;
+use piece::MESSAGE_WORDS;
 use reconstructor_handshake::Handshake;
 ghost use mathlib.Core.Path.{_≡_};
 ghost use Rattle.host_reads.specs.Answers.{answered};
@@ -23,12 +26,13 @@ ghost use Rattle.host_calls.specs.Calls.{called, applyCall, bootstrapCal
 pub fn apply(state: &mut [u64], rows: &mut [u64], segments: &mut [u64], message: &[u64]) -> u64
     ensures { λ r. ⌜ called r (now (state .exit)) (now (rows .exit)) (now (segments .exit)) ≡ applyCall (now (state .entry)) (now (rows .entry)) (now (segments .entry)) (now (message .entry)) ⌝ }
 {
-    let less = list_short(state, segments.len());
+    let lent = segments.len() / RECORD_WORDS;
+    let less = list_short(state, lent);
     let stop = boundary(
         state,
         rows.len(),
         less,
-        message.len() < 21,
+        message.len() < MESSAGE_WORDS,
         no_message(message),
     );
     if stop != 0 {
@@ -36,7 +40,6 @@ pub fn apply(state: &mut [u64], rows: &mut [u64], segments: &mut [u64], message:
     }
     let book = load_book(state);
     let count = book.segments;
-    let lent = segments.len() / 8;
     let last = last_record(segments, count);
     let work = reconstructor::apply_by_value(book, rows, lent, last, load_message(message));
     rewrite_record(segments, count, work.segment);
@@ -48,14 +51,14 @@ pub fn apply(state: &mut [u64], rows: &mut [u64], segments: &mut [u64], message:
 pub fn bootstrap(state: &mut [u64], rows: &mut [u64], segments: &mut [u64], bytes: &[u8]) -> u64
     ensures { λ r. ⌜ called r (now (state .exit)) (now (rows .exit)) (now (segments .exit)) ≡ bootstrapCall (now (state .entry)) (now (rows .entry)) (now (segments .entry)) (now (bytes .entry)) ⌝ }
 {
-    let less = list_short(state, segments.len());
+    let lent = segments.len() / RECORD_WORDS;
+    let less = list_short(state, lent);
     let stop = boundary(state, rows.len(), less, false, false);
     if stop != 0 {
         return stop;
     }
     let book = load_book(state);
     let count = book.segments;
-    let lent = segments.len() / 8;
     let last = last_record(segments, count);
     let work = reconstructor_bootstrap::bootstrap_by_value(book, rows, lent, last, bytes);
     rewrite_record(segments, count, work.segment);
@@ -73,7 +76,7 @@ pub fn new_handshake(state: &[u64], handshake: &mut [u64]) -> u64
     if stop != 0 {
         return stop;
     }
-    if handshake.len() < 4 {
+    if handshake.len() < HANDSHAKE_WORDS {
         return 7;
     }
     store_handshake(handshake, Handshake::new(load_book(state)));
@@ -89,8 +92,9 @@ pub fn step(
 ) -> u64
     ensures { λ r. ⌜ stepCalled r (now (state .exit)) (now (rows .exit)) (now (segments .exit)) (now (handshake .exit)) ≡ stepCall (now (state .entry)) (now (rows .entry)) (now (segments .entry)) (now (handshake .entry)) (now (message .entry)) ⌝ }
 {
-    let less = list_short(state, segments.len());
-    let short = (handshake.len() < 4) | (message.len() < 21);
+    let lent = segments.len() / RECORD_WORDS;
+    let less = list_short(state, lent);
+    let short = (handshake.len() < HANDSHAKE_WORDS) | (message.len() < MESSAGE_WORDS);
     let wrong = no_handshake(handshake) | no_message(message);
     let stop = boundary(state, rows.len(), less, short, wrong);
     if stop != 0 {
@@ -98,7 +102,6 @@ pub fn step(
     }
     let book = load_book(state);
     let count = book.segments;
-    let lent = segments.len() / 8;
     let last = last_record(segments, count);
     let hands = load_handshake(handshake);
     let work = hands.step_by_value(book, rows, lent, last, load_message(message));

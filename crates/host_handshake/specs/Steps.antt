@@ -14,6 +14,9 @@ use Rattle.host_words.specs.Block.{setsStatus}
 --   2     1 once it has ended, before that 0
 --   3     the number of messages applied
 
+abbrev pub handshakeWords : ℕ
+handshakeWords = 4
+
 unfoldable pub handshakeOf : List ℕ → Handshake
 handshakeOf ws =
     record {
@@ -27,7 +30,7 @@ endedWord ended = cond ended 1 0
 
 -- what a call leaves of the words lent for a handshake; those past 3 stay
 unfoldable pub handshakeLeft : List ℕ → Handshake → List ℕ
-handshakeLeft ws h = h .segment .number ∷ h .segment .place ∷ endedWord (h .ended) ∷ h .applied ∷ drop 4 ws
+handshakeLeft ws h = h .segment .number ∷ h .segment .place ∷ endedWord (h .ended) ∷ h .applied ∷ drop handshakeWords ws
 
 -- ---- An answer
 

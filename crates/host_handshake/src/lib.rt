@@ -7,11 +7,14 @@ use reconstructor_segments::SegmentName;
 ghost use mathlib.Core.Path.{_≡_};
 ghost use Prim.Native.Nat.{_≤_};
 ghost use lib.ListN.{length};
-ghost use Rattle.host_handshake.specs.Steps.{handshakeOf, endedWord, handshakeLeft, stepSets};
+ghost use Rattle.host_handshake.specs.Steps.{handshakeWords, handshakeOf, endedWord, handshakeLeft, stepSets};
 
-// The handshake that 4 words are.
+// The words of a handshake.
+pub const HANDSHAKE_WORDS: usize = 4;
+
+// The handshake that words are.
 pub fn load_handshake(words: &[u64]) -> Handshake
-    requires { ⌜ 4 ≤ length (now words) ⌝ }
+    requires { ⌜ handshakeWords ≤ length (now words) ⌝ }
     ensures { λ r. ⌜ r ≡ handshakeOf (now (words .entry)) ⌝ }
 {
     Handshake {
@@ -31,7 +34,7 @@ fn ended_word(ended: bool) -> u64
 }
 
 pub fn store_handshake(words: &mut [u64], handshake: Handshake)
-    requires { ⌜ 4 ≤ length (now words) ⌝ }
+    requires { ⌜ handshakeWords ≤ length (now words) ⌝ }
     ensures { λ r. ⌜ now (words .exit) ≡ handshakeLeft (now (words .entry)) handshake ⌝ }
 {
     let segment = handshake.segment;

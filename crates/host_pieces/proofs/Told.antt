@@ -11,7 +11,7 @@ use Rattle.message.specs.Told.{told}
 use Rattle.piece.specs.declared.PieceError.{PieceError}
 use Rattle.piece.specs.declared.PieceError.the-variants.{NotAPiece, OutOfRange}
 use Rattle.piece.specs.Piece.{pieceNumber}
-use Rattle.piece.specs.Words.{messageWords}
+use Rattle.piece.specs.Words.{messageList}
 use Rattle.host_words.proofs.Puts.{length-event}
 use Rattle.host_reads.specs.Answers.{answered, given, toldIn}
 
@@ -21,7 +21,7 @@ given-none values out n e h = rw (lt-ltb (length out) (length values) (omega (ar
 pub given-all : (values out : List ℕ) (n : ℕ) → length values ≡ n → n ≤ length out → given values out ≡ answered 0 (values ++ drop n out)
 given-all values out n e h = rw (le-ltb (length out) (length values) (omega (arith, e, h))) (ap (λ (k : ℕ). answered 0 (values ++ drop k out)) e)
 
-pub length-message : (m : L3Message) → length (messageWords m) ≡ 21
+pub length-message : (m : L3Message) → length (messageList m) ≡ 21
 length-message m = ap (λ (k : ℕ). suc (suc (suc (suc (suc k))))) (length-event (m .event))
 
 pub piece-refused : (e : PieceError) (out : List ℕ) → toldIn (told (pieceNumber e) []) out ≡ answered (pieceNumber e) out

@@ -13,7 +13,7 @@ use Rattle.book.proofs.Stored.{rows-stored, length-stored, length-encode, store
 use Rattle.reconstructor_segments.specs.declared.Segment.{Segment}
 use Rattle.reconstructor_segments.specs.Segments.{noSegment, segmentAt, relast}
 use Rattle.reconstructor_segments.proofs.Last.{relast-at}
-use Rattle.host_records.specs.Records.{recordAt, recordsFrom, recordsOf, recordWords, encodeRecords, setRecord, relaid}
+use Rattle.host_records.specs.Records.{recordAt, recordsFrom, recordsOf, encodeRecord, encodeRecords, setRecord, relaid}
 
 -- the row of the same words, and back
 abbrev row : Segment → Resting
@@ -53,7 +53,7 @@ back-rows (g ∷ gs) = ap (λ (l : List Segment). g ∷ l) (back-rows gs)
 
 encode-rows : (gs : List Segment) → encodeRecords gs ≡ encodeAll (map row gs)
 encode-rows [] = refl
-encode-rows (g ∷ gs) = ap (λ (l : List ℕ). recordWords g ++ l) (encode-rows gs)
+encode-rows (g ∷ gs) = ap (λ (l : List ℕ). encodeRecord g ++ l) (encode-rows gs)
 
 map-set : (gs : List Segment) (i : ℕ) (g : Segment) → map row (set gs i g) ≡ set (map row gs) i (row g)
 map-set [] i g = refl

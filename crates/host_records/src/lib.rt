@@ -4,14 +4,17 @@ ghost use mathlib.Core.Path.{_≡_};
 ghost use Prim.Native.Nat.{_+_, _*_, _≤_};
 ghost use lib.ListN.{length, set};
 ghost use Rattle.reconstructor_segments.specs.Segments.{segmentAt, lastSegment, relast};
-ghost use Rattle.host_records.specs.Records.{recordAt, recordsOf, setRecord, relaid};
+ghost use Rattle.host_records.specs.Records.{recordWords, recordAt, recordsOf, setRecord, relaid};
+
+// Words of a record.
+pub const RECORD_WORDS: usize = 8;
 
 // Record `i`.
 fn get_record(words: &[u64], i: usize) -> Segment
-    requires { ⌜ 8 * i + 8 ≤ length (now words) ⌝ }
+    requires { ⌜ recordWords * i + recordWords ≤ length (now words) ⌝ }
     ensures { λ r. ⌜ r ≡ recordAt (now (words .entry)) i ⌝ }
 {
-    let at = 8 * i;
+    let at = RECORD_WORDS * i;
     Segment {
         start_seq: words[at],
         last_good_seq: words[at + 1],
@@ -26,10 +29,10 @@ fn get_record(words: &[u64], i: usize) -> Segment
 
 // Writes record `i`.
 fn set_record(words: &mut [u64], i: usize, segment: Segment)
-    requires { ⌜ 8 * i + 8 ≤ length (now words) ⌝ }
+    requires { ⌜ recordWords * i + recordWords ≤ length (now words) ⌝ }
     ensures { λ _. ⌜ now (words .exit) ≡ setRecord (now (words .entry)) i segment ⌝ }
 {
-    let at = 8 * i;
+    let at = RECORD_WORDS * i;
     words[at] = segment.start_seq;
     words[at + 1] = segment.last_good_seq;
     words[at + 2] = segment.end;
@@ -44,7 +47,7 @@ fn set_record(words: &mut [u64], i: usize, segment: Segment)
 pub fn record_at(words: &[u64], place: usize) -> Segment
     ensures { λ r. ⌜ r ≡ segmentAt (recordsOf (now (words .entry))) place ⌝ }
 {
-    if place < words.len() / 8 {
+    if place < words.len() / RECORD_WORDS {
         return get_record(words, place);
     }
     Segment::none()
@@ -54,7 +57,7 @@ pub fn record_at(words: &[u64], place: usize) -> Segment
 pub fn put_record(words: &mut [u64], place: usize, segment: Segment)
     ensures { λ _. ⌜ now (words .exit) ≡ relaid (now (words .entry)) (set (recordsOf (now (words .entry))) place segment) ⌝ }
 {
-    if place < words.len() / 8 {
+    if place < words.len() / RECORD_WORDS {
         set_record(words, place, segment);
     }
 }

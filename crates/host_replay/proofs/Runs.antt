@@ -12,30 +12,31 @@ use lib.Dec.{ltb}
 use lib.ListN.{length, set, take, drop, length-drop, length-set, take-append-drop}
 use lib.Seq.{take-all, take-suc-set, drop-set-lt, drop-drop}
 use Rattle.book.specs.declared.Resting.{Resting}
-use Rattle.book.specs.Rows.{ceiling, rowsOf}
+use Rattle.book.specs.Rows.{mostRows}
+use Rattle.book.specs.Memory.{memory, extentOf, ordersOf}
 use Rattle.book_index.specs.declared.Bounds.{Bounds}
 use Rattle.book_index.specs.Index.{rowMarked, rowBounded, all, Indexed, Foreseen, noted}
 use Rattle.reconstructor_segments.specs.declared.Segment.{Segment}
 use Rattle.reconstructor_segments.specs.Segments.{lastSegment, relast}
-use Rattle.reconstructor_segments.proofs.Last.{length-relast}
 use Rattle.reconstructor_state.specs.declared.BookReconstructor.{BookReconstructor}
+use Rattle.reconstructor_state.specs.State.{ceiling}
 use Rattle.reconstructor.specs.declared.Work.{Work}
-use Rattle.reconstructor.specs.Applied.{Parts, applied}
-use Rattle.reconstructor.specs.ByValue.{worked, trustedTo, relisted}
+use Rattle.reconstructor.specs.Applied.{Worked, worked, Parts, appliedTo, applied, putBack}
+use Rattle.reconstructor.specs.Steps.{trustedTo}
 use Rattle.reconstructor_answers.specs.declared.StateError.{StateError}
 use Rattle.reconstructor_answers.specs.Numbers.{stateErrorNumber}
 use Rattle.reconstructor_checks.specs.declared.Checked.{Checked}
 use Rattle.reconstructor_checks.specs.declared.Checked.the-variants.{Passed, Refused}
 use Rattle.reconstructor_checks.specs.Own.{bookRefusal, checked, Usable, Trusted}
-use Rattle.host_records.specs.Records.{recordsOf, relaid}
+use Rattle.host_records.specs.Records.{recordsIn, recordsOf, relaid}
 use Rattle.host_records.proofs.Records.{length-records}
 use Rattle.reconstructor_answers.specs.Numbers.{answerNumber}
 use Rattle.host_words.specs.Block.{bookOf, messageOf, restored, setsStatus}
 use Rattle.host_boundary.specs.Boundary.{noMessage, noBook, boundary}
 use Rattle.host_calls.specs.Calls.{Call, called, afterApply, applyCall}
 use Rattle.host_replay.specs.Replay.{Run, then, run, ReplayCall, replayCalled, countOf, afterRun, replayCall, Ready, Runs}
-use Rattle.reconstructor_checks.proofs.Own.{usable, trusted, sound, said, said-none}
-use Rattle.reconstructor.proofs.ByValue.{applied-trusted}
+use Rattle.reconstructor_checks.proofs.Own.{usable, trusted-under, sound, said, said-none}
+use Rattle.reconstructor.proofs.ByValue.{applied-trusted, applied-trusted-to}
 use Rattle.reconstructor.proofs.Kept.{usable-kept, indexed-kept}
 use Rattle.host_boundary.proofs.Passed as Boundary
 use Rattle.host_boundary.proofs.Passed.{passes, wrong-number}
@@ -44,17 +45,17 @@ use Rattle.host_calls.proofs.Blocks.{less, applied-state}
 
 -- what the loop carries, of the state as it was loaded
 module _ (st ws sg ps : List ℕ) (bd : Bounds) (b : BookReconstructor) (e : b ≡ bookOf st) where
-  pub loaded : Runs st ws sg ps bd → Trusted ceiling b ws × Indexed ps bd (rowsOf ws (b .rows))
-  loaded r = rw e (trusted ceiling (bookOf st) ws (length sg / 8) (r .usable), r .index)
+  pub loaded : Runs st ws sg ps bd → Trusted mostRows b (memory ws) × Indexed ps bd (ordersOf (memory ws) (b .rows))
+  loaded r = rw e (trusted-under ceiling (bookOf st) (memory ws) (recordsIn sg) (omega arith) (r .usable), r .index)
 
-  pub runs-start : 27 ≤ length st → noBook st ≡ false → Usable ceiling (bookOf st) ws (length sg / 8) → length ps ≤ 65536 → all (rowMarked ps) (rowsOf ws (b .rows)) ≡ true
-      → all (rowBounded bd) (rowsOf ws (b .rows)) ≡ true → Runs st ws sg ps bd
+  pub runs-start : 27 ≤ length st → noBook st ≡ false → Usable ceiling (bookOf st) (memory ws) (recordsIn sg) → length ps ≤ 65536 → all (rowMarked ps) (ordersOf (memory ws) (b .rows)) ≡ true
+      → all (rowBounded bd) (ordersOf (memory ws) (b .rows)) ≡ true → Runs st ws sg ps bd
   runs-start whole is u few marks within =
       record {
         whole = whole;
         book = is;
         usable = u;
-        index = record { few = few; marks = rw e at marks; within = rw e at within; single = sound (bookOf st) ws (u .sound) .formed .single };
+        index = record { few = few; marks = rw e at marks; within = rw e at within; single = sound (bookOf st) (memory ws) (u .sound) .formed .single };
       }
 
 -- other bounds of the same orders
@@ -65,38 +66,39 @@ foreseen ps bd nd os i h = record { few = i .few; marks = i .marks; within = h; 
 
 -- what its call was seen to give leaves the words of `applyCall`, and the loop goes on
 module _ (st ws sg m ps : List ℕ) (n : ℕ) (bd : Bounds) (w : Work) (ut vs tg qs : List ℕ) (g : Segment) (at : g ≡ lastSegment (recordsOf sg) (bookOf st .segments))
-    (e : worked w vs ≡ trustedTo (bookOf st) ws g (messageOf m)) (eg : tg ≡ relaid sg (relast (recordsOf sg) (bookOf st .segments) (w .segment)))
-    (eu : ut ≡ restored st (setsStatus (w .answer)) (w .book)) (en : qs ≡ noted ps n (messageOf m .event)) (whole : 27 ≤ length st) (is : noBook st ≡ false) (u : Usable ceiling (bookOf st) ws (length sg / 8)) where
+    (e : worked w (memory vs) ≡ trustedTo (bookOf st) (memory ws) g (messageOf m)) (eg : tg ≡ relaid sg (relast (recordsOf sg) (bookOf st .segments) (w .segment)))
+    (eu : ut ≡ restored st (setsStatus (w .answer)) (w .book)) (en : qs ≡ noted ps n (messageOf m .event)) (whole : 27 ≤ length st) (is : noBook st ≡ false) (u : Usable ceiling (bookOf st) (memory ws) (recordsIn sg)) where
   abbrev after : Parts
-  after = applied ceiling (bookOf st) ws (recordsOf sg) (messageOf m)
+  after = applied ceiling (bookOf st) (memory ws) (recordsOf sg) (messageOf m)
 
-  usable-records : Usable ceiling (bookOf st) ws (length (recordsOf sg))
+  usable-records : Usable ceiling (bookOf st) (memory ws) (length (recordsOf sg))
   usable-records = rw (length-records sg) u
 
   -- the work with the record written back is what the rules leave
-  done : relisted (recordsOf sg) (bookOf st .segments) (worked w vs) ≡ after
+  done : putBack (recordsOf sg) (bookOf st .segments) (worked w (memory vs)) ≡ after
   done =
-      ap (relisted (recordsOf sg) (bookOf st .segments)) (e ∙ ap (λ (x : Segment). trustedTo (bookOf st) ws x (messageOf m)) at)
-      ∙ sym (applied-trusted (bookOf st) ws (recordsOf sg) (messageOf m) ceiling usable-records)
+      ap (putBack (recordsOf sg) (bookOf st .segments)) (e ∙ ap (λ (x : Segment). trustedTo (bookOf st) (memory ws) x (messageOf m)) at)
+      ∙ sym (applied-trusted (bookOf st) (memory ws) (recordsOf sg) (messageOf m) ceiling usable-records)
 
   pub applies : 21 ≤ length m → noMessage m ≡ false → called (answerNumber (w .answer)) ut vs tg ≡ applyCall st ws sg m
   unfolding applyCall
   applies full right =
-      rw (passes st (length ws) (less st sg) (ltb (length m) 21) (noMessage m) (record { whole = whole; full = le-ltb (length m) 21 full; right = right; book = is }), eu, eg)
+      rw (passes st (extentOf (memory ws)) (less st sg) (ltb (length m) 21) (noMessage m) (record { whole = whole; full = le-ltb (length m) 21 full; right = right; book = is }), eu, eg)
       (ap (afterApply st sg) done)
 
-  kept : length (after .segments) ≡ length sg / 8
-  kept = ap (λ (p : Parts). length (p .segments)) (sym done) ∙ length-relast (recordsOf sg) (bookOf st .segments) (w .segment) ∙ length-records sg
+  -- by value, what the rules leave of a usable state
+  work : worked w (memory vs) ≡ appliedTo ceiling (bookOf st) (memory ws) (recordsIn sg) g (messageOf m)
+  work = e ∙ sym (applied-trusted-to ceiling (bookOf st) (memory ws) (recordsIn sg) g (messageOf m) u)
 
-  pub runs-on : length ut ≡ length st → length tg ≡ length sg → length qs ≡ length ps → Indexed ps bd (rowsOf ws (bookOf st .rows)) → Foreseen bd (messageOf m .event) → Runs ut vs tg qs bd
+  pub runs-on : length ut ≡ length st → length tg ≡ length sg → length qs ≡ length ps → Indexed ps bd (ordersOf (memory ws) (bookOf st .rows)) → Foreseen bd (messageOf m .event) → Runs ut vs tg qs bd
   runs-on long same few i f =
       let now : bookOf ut ≡ w .book =
-      ap bookOf eu ∙ subst (λ (p : Parts). bookOf (afterApply st sg p .state) ≡ p .book) (sym done) (applied-state st ws sg (messageOf m) whole) in
-      let usable : Usable ceiling (w .book) vs (length sg / 8) =
-      rw kept at (subst (λ (p : Parts). Usable ceiling (p .book) (p .rows) (length (after .segments))) (sym done) (usable-kept ceiling (bookOf st) ws (recordsOf sg) usable-records (messageOf m))) in
-      let index : Indexed qs bd (rowsOf vs (w .book .rows)) =
-      subst (λ (p : Parts). Indexed qs bd (rowsOf (p .rows) (p .book .rows))) (sym done)
-      (rw en (indexed-kept ceiling (bookOf st) ws (recordsOf sg) (messageOf m) ps bd n usable-records i f (rw en at few))) in
+      ap bookOf eu ∙ subst (λ (p : Parts). bookOf (afterApply st sg p .state) ≡ p .book) (sym done) (applied-state st ws sg (messageOf m) whole ceiling) in
+      let usable : Usable ceiling (w .book) (memory vs) (recordsIn sg) =
+      subst (λ (x : Worked). Usable ceiling (x .book) (x .memory) (recordsIn sg)) (sym work) (usable-kept ceiling (bookOf st) (memory ws) (recordsIn sg) u g (messageOf m)) in
+      let index : Indexed qs bd (ordersOf (memory vs) (w .book .rows)) =
+      subst (λ (x : Worked). Indexed qs bd (ordersOf (x .memory) (x .book .rows))) (sym work)
+      (rw en (indexed-kept ceiling (bookOf st) (memory ws) (recordsIn sg) g (messageOf m) ps bd n u i f (rw en at few))) in
       record { whole = omega arith; book = rw eu (book-kept st (setsStatus (w .answer)) (w .book) whole is); usable = rw (now, same) usable; index = rw now index }
 
 -- ---- the loop
@@ -184,17 +186,17 @@ module _ (st₀ ws₀ sg₀ ms out₀ ps₀ st ws sg out ps : List ℕ) (b : Bou
 
 pub no-apply : (st ws sg m : List ℕ) → 27 ≤ length st → 21 ≤ length m → noMessage m ≡ true → called 4 st ws sg ≡ applyCall st ws sg m
 unfolding applyCall
-no-apply st ws sg m whole full none = rw (le-ltb (length m) 21 full, none, wrong-number st (length ws) (less st sg) whole)
+no-apply st ws sg m whole full none = rw (le-ltb (length m) 21 full, none, wrong-number st (extentOf (memory ws)) (less st sg) whole)
 
 -- ---- the call, by what the own checks of the loaded state say
 
 module _ (st ws sg ms out : List ℕ) (p : Boundary.Passed st false false) (b : BookReconstructor) (e : b ≡ bookOf st) (k : Checked)
-    (q : k ≡ checked (bookRefusal ceiling b ws (length sg / 8))) where
+    (q : k ≡ checked (bookRefusal ceiling b (memory ws) (recordsIn sg))) where
   pub ready : k ≡ Passed → countOf ms ≤ length out → Ready st ws sg ms out
-  ready h room = record { whole = p .whole; book = p .book; usable = rw e at (usable ceiling b ws (length sg / 8) (said-none _ _ q h)); answered = room }
+  ready h room = record { whole = p .whole; book = p .book; usable = rw e at (usable ceiling b (memory ws) (recordsIn sg) (said-none _ _ q h)); answered = room }
 
-  at-boundary : boundary st (length ws) (less st sg) false false ≡ 0
-  at-boundary = passes st (length ws) (less st sg) false false p
+  at-boundary : boundary st (extentOf (memory ws)) (less st sg) false false ≡ 0
+  at-boundary = passes st (extentOf (memory ws)) (less st sg) false false p
 
   pub run-refused : (w : StateError) → k ≡ Refused w → (n : ℕ) → n ≡ stateErrorNumber w → replayCalled n st ws sg out ≡ replayCall st ws sg ms out
   unfolding replayCall

@@ -6,13 +6,16 @@ use mathlib.Core.List.{List, [], _∷_, _++_}
 use mathlib.Core.Option.{Option, none, some}
 use lib.Dec.{ltb}
 use lib.ListN.{length, drop}
-use Rattle.book.specs.Rows.{ceiling, rowsOf}
+use Rattle.piece.specs.Words.{messageWords}
+use Rattle.book.specs.Memory.{memory, ordersOf}
 use Rattle.book_index.specs.declared.Bounds.{Bounds}
 use Rattle.book_index.specs.Index.{Indexed}
 use Rattle.reconstructor_answers.specs.declared.StateError.{StateError}
 use Rattle.reconstructor_answers.specs.Numbers.{stateErrorNumber}
+use Rattle.reconstructor_state.specs.State.{ceiling}
 use Rattle.reconstructor_checks.specs.Own.{bookRefusal, Usable}
-use Rattle.host_words.specs.Block.{bookOf}
+use Rattle.host_records.specs.Records.{recordsIn}
+use Rattle.host_words.specs.Block.{stateWords, bookOf}
 use Rattle.host_boundary.specs.Boundary.{noBook, unlessTurned}
 use Rattle.host_calls.specs.Calls.{callBoundary, applyCall}
 
@@ -27,12 +30,12 @@ pub record Run : Type 0 where
 abbrev pub then : ℕ → Run → Run
 then k r = record { numbers = k ∷ r .numbers; state = r .state; rows = r .rows; segments = r .segments }
 
--- k messages of 21 words each, one after the other
+-- k messages, one after the other
 unfoldable pub run : ℕ → List ℕ → List ℕ → List ℕ → List ℕ → Run
 run zero st ws sg ms = record { numbers = []; state = st; rows = ws; segments = sg }
 run (suc k) st ws sg ms =
     then (applyCall st ws sg ms .number)
-    (run k (applyCall st ws sg ms .state) (applyCall st ws sg ms .rows) (applyCall st ws sg ms .segments) (drop 21 ms))
+    (run k (applyCall st ws sg ms .state) (applyCall st ws sg ms .rows) (applyCall st ws sg ms .segments) (drop messageWords ms))
 
 -- ---- the exported call
 
@@ -48,7 +51,7 @@ replayCalled k st ws sg out = record { number = k; state = st; rows = ws; segmen
 
 -- how many whole messages the words hold
 abbrev pub countOf : List ℕ → ℕ
-countOf ms = length ms / 21
+countOf ms = length ms / messageWords
 
 -- 0, and the number of each message in a word of its own
 abbrev pub afterRun : List ℕ → Run → ReplayCall
@@ -64,20 +67,20 @@ replaySettled none st ws sg ms out =
 unfoldable pub replayCall : List ℕ → List ℕ → List ℕ → List ℕ → List ℕ → ReplayCall
 replayCall st ws sg ms out =
     unlessTurned (callBoundary st ws sg false false) (λ (k : ℕ). replayCalled k st ws sg out)
-    (replaySettled (bookRefusal ceiling (bookOf st) ws (length sg / 8)) st ws sg ms out)
+    (replaySettled (bookRefusal ceiling (bookOf st) (memory ws) (recordsIn sg)) st ws sg ms out)
 
 -- ---- what the inner functions require
 
 -- lent words that are enough, and a state that passes 1, 2 and 3
 pub record Ready (st ws sg ms out : List ℕ) : Type 0 where
-  pub whole : 27 ≤ length st
+  pub whole : stateWords ≤ length st
   pub book : noBook st ≡ false
-  pub usable : Usable ceiling (bookOf st) ws (length sg / 8)
+  pub usable : Usable ceiling (bookOf st) (memory ws) (recordsIn sg)
   pub answered : countOf ms ≤ length out
 
 -- such a state, and an index of its rows
 pub record Runs (st ws sg places : List ℕ) (b : Bounds) : Type 0 where
-  pub whole : 27 ≤ length st
+  pub whole : stateWords ≤ length st
   pub book : noBook st ≡ false
-  pub usable : Usable ceiling (bookOf st) ws (length sg / 8)
-  pub index : Indexed places b (rowsOf ws (bookOf st .rows))
+  pub usable : Usable ceiling (bookOf st) (memory ws) (recordsIn sg)
+  pub index : Indexed places b (ordersOf (memory ws) (bookOf st .rows))

@@ -4,19 +4,30 @@ use host_boundary::boundary;
 use host_boundary::list_short;
 use host_boundary::no_message;
 use host_messages::load_message;
+use host_records::RECORD_WORDS;
 use host_records::last_record;
 use host_records::rewrite_record;
 use host_words::load_book;
 use host_words::sets_status;
 use host_words::store_book;
+use piece::MESSAGE_WORDS;
 use reconstructor_checks::Checked;
+use reconstructor_state::VenueRules;
 ghost use mathlib.Core.Path.{_≡_};
 ghost use mathlib.Core.Bool.{false};
 ghost use Prim.Native.Nat.{_≤_};
 ghost use lib.ListN.{length};
+ghost use Rattle.piece.specs.Words.{messageWords};
 ghost use Rattle.host_boundary.specs.Boundary.{noMessage};
 ghost use Rattle.host_calls.specs.Calls.{called, applyCall};
 ghost use Rattle.host_replay.specs.Replay.{run, countOf, afterRun, replayCalled, replayCall, Ready, Runs};
+
+// Up to so many rows a run works with few places in its index, else with many.
+const FEW_ROWS: usize = 256;
+
+const FEW_PLACES: usize = 4096;
+
+const MANY_PLACES: usize = 65536;
 
 // What a message of the run leaves beside the lent words: its number, and the bounds of the rows.
 struct Replayed {
@@ -34,7 +45,7 @@ fn apply_message(
     message: &[u64],
 ) -> Replayed
     requires { ⌜ Runs (now state) (now rows) (now segments) (now places) bounds ⌝ }
-    requires { ⌜ 21 ≤ length (now message) ⌝ }
+    requires { ⌜ messageWords ≤ length (now message) ⌝ }
     requires { ⌜ noMessage (now message) ≡ false ⌝ }
     ensures applies { λ r. ⌜ called (r .number) (now (state .exit)) (now (rows .exit)) (now (segments .exit)) ≡ applyCall (now (state .entry)) (now (rows .entry)) (now (segments .entry)) (now (message .entry)) ⌝ }
     ensures runs { λ r. ⌜ Runs (now (state .exit)) (now (rows .exit)) (now (segments .exit)) (now (places .exit)) (r .bounds) ⌝ }
@@ -67,7 +78,7 @@ fn replay_message(
     message: &[u64],
 ) -> Replayed
     requires { ⌜ Runs (now state) (now rows) (now segments) (now places) bounds ⌝ }
-    requires { ⌜ 21 ≤ length (now message) ⌝ }
+    requires { ⌜ messageWords ≤ length (now message) ⌝ }
     ensures applies { λ r. ⌜ called (r .number) (now (state .exit)) (now (rows .exit)) (now (segments .exit)) ≡ applyCall (now (state .entry)) (now (rows .entry)) (now (segments .entry)) (now (message .entry)) ⌝ }
     ensures runs { λ r. ⌜ Runs (now (state .exit)) (now (rows .exit)) (now (segments .exit)) (now (places .exit)) (r .bounds) ⌝ }
 {
@@ -91,11 +102,11 @@ fn replay_from(
     requires { ⌜ countOf (now messages) ≤ length (now answers) ⌝ }
     ensures { λ _. ⌜ replayCalled 0 (now (state .exit)) (now (rows .exit)) (now (segments .exit)) (now (answers .exit)) ≡ afterRun (now (answers .entry)) (run (countOf (now (messages .entry))) (now (state .entry)) (now (rows .entry)) (now (segments .entry)) (now (messages .entry))) ⌝ }
 {
-    let count = messages.len() / 21;
+    let count = messages.len() / MESSAGE_WORDS;
     let mut bounds = first;
     let mut i: usize = 0;
     while i < count {
-        let at = 21 * i;
+        let at = MESSAGE_WORDS * i;
         let done = replay_message(state, rows, segments, places, bounds, &messages[at..]);
         answers[i] = done.number;
         bounds = done.bounds;
@@ -133,7 +144,7 @@ fn replay_few(
     requires { ⌜ Ready (now state) (now rows) (now segments) (now messages) (now answers) ⌝ }
     ensures { λ _. ⌜ replayCalled 0 (now (state .exit)) (now (rows .exit)) (now (segments .exit)) (now (answers .exit)) ≡ afterRun (now (answers .entry)) (run (countOf (now (messages .entry))) (now (state .entry)) (now (rows .entry)) (now (segments .entry)) (now (messages .entry))) ⌝ }
 {
-    let mut places = [0u16; 4096];
+    let mut places = [0u16; FEW_PLACES];
     replay_in(state, rows, segments, messages, answers, &mut places)
 }
 
@@ -147,11 +158,11 @@ fn replay_many(
     requires { ⌜ Ready (now state) (now rows) (now segments) (now messages) (now answers) ⌝ }
     ensures { λ _. ⌜ replayCalled 0 (now (state .exit)) (now (rows .exit)) (now (segments .exit)) (now (answers .exit)) ≡ afterRun (now (answers .entry)) (run (countOf (now (messages .entry))) (now (state .entry)) (now (rows .entry)) (now (segments .entry)) (now (messages .entry))) ⌝ }
 {
-    let mut places = [0u16; 65536];
+    let mut places = [0u16; MANY_PLACES];
     replay_in(state, rows, segments, messages, answers, &mut places)
 }
 
-// Applies the messages, 21 words each, in turn: as many calls of `apply`, with the number of each in a word of `answers`.
+// Applies the messages in turn: as many calls of `apply`, with the number of each in a word of `answers`.
 pub fn replay(
     state: &mut [u64],
     rows: &mut [u64],
@@ -161,19 +172,20 @@ pub fn replay(
 ) -> u64
     ensures { λ r. ⌜ replayCalled r (now (state .exit)) (now (rows .exit)) (now (segments .exit)) (now (answers .exit)) ≡ replayCall (now (state .entry)) (now (rows .entry)) (now (segments .entry)) (now (messages .entry)) (now (answers .entry)) ⌝ }
 {
-    let less = list_short(state, segments.len());
+    let lent = segments.len() / RECORD_WORDS;
+    let less = list_short(state, lent);
     let stop = boundary(state, rows.len(), less, false, false);
     if stop != 0 {
         return stop;
     }
     let book = load_book(state);
-    match reconstructor_checks::own_checks(book, rows, segments.len() / 8) {
+    match reconstructor_checks::own_checks(VenueRules::CEILING, book, rows, lent) {
         Checked::Refused(why) => why.number(),
         Checked::Passed => {
-            if answers.len() < messages.len() / 21 {
+            if answers.len() < messages.len() / MESSAGE_WORDS {
                 return 7;
             }
-            if book.rows <= 256 {
+            if book.rows <= FEW_ROWS {
                 replay_few(state, rows, segments, messages, answers);
             } else {
                 replay_many(state, rows, segments, messages, answers);

@@ -32,7 +32,7 @@ use Rattle.reconstructor_counts.specs.declared.MessageCounts.{MessageCounts}
 use Rattle.reconstructor_state.specs.declared.BookReconstructor.{BookReconstructor}
 use Rattle.host_words.specs.declared.KindWords.{KindWords}
 use Rattle.host_words.specs.declared.StatusWords.{StatusWords}
-use Rattle.piece.specs.Words.{eventWords, messageWords}
+use Rattle.piece.specs.Words.{eventWords, messageList}
 use Rattle.host_words.specs.Block.{reasonOf, discrepancyOf, kindOf, statusOf, bookOf, kindWords, statusWords, restored, optionalOf, receivedOf, openOf, doneOf, matchOf, changeOf, eventOf, messageOf}
 use Rattle.message.proofs.Signed.{back}
 
@@ -137,7 +137,7 @@ event-back a b c d (Change i side reason p os ns op np nf) rest h =
     )
 event-back a b c d (Unsupported kind) rest h = ap Unsupported (mod-eq-of-lt h)
 
-pub message-back : (m : L3Message) (rest : List ℕ) → MessageFits m → messageOf (messageWords m ++ rest) ≡ m
+pub message-back : (m : L3Message) (rest : List ℕ) → MessageFits m → messageOf (messageList m ++ rest) ≡ m
 unfolding messageOf
 message-back m rest fits =
     rw (event-back (m .«product_id» .high) (m .«product_id» .low) (m .sequence) (m .«time_us») (m .event) rest (fits .event))

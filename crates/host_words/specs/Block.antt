@@ -48,6 +48,9 @@ use Rattle.host_words.specs.declared.StatusWords.{StatusWords}
 --   15 to 26  the counts: received, open, done, matched, stp_decrease, off_book_done, off_book_change, noop_change, handshake_dropped,
 --             skipped_while_invalid, wrong_product, rejected_snapshots
 
+abbrev pub stateWords : ℕ
+stateWords = 27
+
 unfoldable pub sizeDecreaseOf : ℕ → SizeDecrease
 sizeDecreaseOf w = cond (eqb w 0) KeepsPriority PriorityUnknown
 
@@ -160,7 +163,7 @@ restList b =
 unfoldable pub restored : List ℕ → Bool → BookReconstructor → List ℕ
 restored st sets b = take 6 st ++ statusAfter st sets (b .status) ++ restList b ++ drop 27 st
 
--- ---- A message: 21 words, as `messageWords` of crate `piece` gives them
+-- ---- A message: 21 words, as `messageList` of crate `piece` gives them
 --   0         kind: 1 received, 2 open, 3 done, 4 match, 5 change, 6 unsupported
 --   1, 2      product, high and low
 --   3, 4      sequence, time_us

@@ -21,6 +21,9 @@ ghost use Rattle.piece.specs.Piece.{sideOf};
 ghost use Rattle.piece.specs.Encode.{sideByte};
 ghost use Rattle.host_words.specs.Block.{sizeDecreaseOf, reasonOf, discrepancyOf, kindOf, statusOf, rulesOf, countsOf, bookOf, kindWords, statusWords, statusAfter, restList, restored, setsStatus};
 
+// The words of a state.
+pub const STATE_WORDS: usize = 27;
+
 // ---- a value as words
 
 // An amount's 64 bits.

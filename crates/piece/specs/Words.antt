@@ -18,6 +18,9 @@ use Rattle.piece.specs.Piece.{pieceNumber}
 
 -- ---- A message: 21 words
 
+abbrev pub messageWords : ℕ
+messageWords = 21
+
 -- the fields of an event in the Rust's order, sixteen words: an id as high and low, a side and a reason as their bytes, an amount as its bits, an
 -- optional amount as 1 and its bits or as 0 and 0; 0 past the last field
 abbrev pub eventWords : L3Event → List ℕ
@@ -51,8 +54,8 @@ eventWords (Change i side reason price oldSize newSize oldPrice newPrice newFund
     presentBit newPrice ∷ optionalWord newPrice ∷ presentBit newFunds ∷ optionalWord newFunds ∷ []
 eventWords (Unsupported kind) = kind ∷ 0 ∷ 0 ∷ 0 ∷ 0 ∷ 0 ∷ 0 ∷ 0 ∷ 0 ∷ 0 ∷ 0 ∷ 0 ∷ 0 ∷ 0 ∷ 0 ∷ 0 ∷ []
 
-abbrev pub messageWords : L3Message → List ℕ
-messageWords m =
+abbrev pub messageList : L3Message → List ℕ
+messageList m =
     kindByte (m .event) ∷
     m .«product_id» .high ∷ m .«product_id» .low ∷ m .sequence ∷ m .«time_us» ∷ eventWords (m .event)
 
@@ -69,7 +72,7 @@ orderWords o = o .«order_id» .high ∷ o .«order_id» .low ∷ ofZ w64 (o .pr
 -- ---- The readers' answers: 4 or 5, or the value's words
 
 abbrev pub readMessageTold : ReadMessage → Told
-readMessageTold (Message m) = told 0 (messageWords m)
+readMessageTold (Message m) = told 0 (messageList m)
 readMessageTold (Refused e) = told (pieceNumber e) []
 
 abbrev pub readSnapshotTold : ReadSnapshot → Told

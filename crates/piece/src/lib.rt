@@ -17,6 +17,9 @@ ghost use mir.Val.{toZ};
 ghost use Rattle.piece.specs.Bytes.{part, little, big};
 ghost use Rattle.piece.specs.Piece.{pieceNumber, wordAt, amountAt, orderIdAt, productIdAt, sideOf, doneReasonOf, changeReasonOf, hasBit, optionalAt, zeroUnless};
 
+// The words of a message.
+pub const MESSAGE_WORDS: usize = 21;
+
 // Why bytes are turned away.
 pub enum PieceError {
     // The bytes are not a piece of that kind.

@@ -1,6 +1,5 @@
 use mathlib.Core.Path.{_∙_, sym}
 use native.Mathlib.Omega.{arith}
-use Rattle.book.specs.Rows.{ceiling}
 use Rattle.reconstructor_checks.proofs.Own.{orders-within}
 use Rattle.host_boundary.specs.Boundary.{noBookNumber}
 use borrow.Author.Needs.{needs}
@@ -14,7 +13,7 @@ returns c = rw (← c .before .over-ceiling .ensures, c .if1 .taken)
 mul-if2 : tie.Need-mul-if2
 mul-if2 c =
     let k-start = c .before .before .before in
-    let m = orders-within ceiling (k-start .args .rules) (sym (c .before .before .over-ceiling .ensures) ∙ c .before .if1 .left) in omega arith
+    let m = orders-within (k-start .args .top) (k-start .args .rules) (sym (c .before .before .over-ceiling .ensures) ∙ c .before .if1 .left) in omega arith
 
 returns-2 : tie.Need-returns-2
 unfolding noBookNumber

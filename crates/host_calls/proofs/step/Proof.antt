@@ -5,6 +5,8 @@ use borrow.Author.Tests.{eq-eqb}
 use lib.Dec.{ltb}
 use lib.ListN.{length}
 use Rattle.host_calls.proofs.Blocks.{less}
+use Rattle.book.specs.Memory.{memory, extentOf}
+use Rattle.reconstructor_state.specs.State.{ceiling}
 use Rattle.host_boundary.specs.Boundary.{noMessage, noHandshake, boundary}
 use Rattle.host_boundary.proofs.Passed.{passed, turned-away, goes-on}
 use Rattle.host_words.proofs.Lent.{lent-two}
@@ -21,7 +23,7 @@ returns c =
     let k-no-handshake = k-no-message .before in
     let k-list-short = k-no-handshake .before .before in
     let k-start = k-list-short .before .before .before .before .before .before .before in
-    turned-away _ _ (λ (n : ℕ). stepCalled n (k-start .args .state .now) (k-start .args .rows .now) (k-start .args .segments .now) (k-start .args .handshake .now)) _ (c .before .boundary .ensures ∙ ap₂ (λ (x y : Bool). boundary (k-start .args .state .now) (length (k-start .args .rows .now)) x (ltb (length (k-start .args .handshake .now)) 4 || ltb (length (k-start .args .message .now)) 21) y) (k-list-short .list-short .ensures) (ap₂ _||_ (k-no-handshake .no-handshake .ensures) (k-no-message .no-message .ensures))) (c .if1 .taken)
+    turned-away _ _ (λ (n : ℕ). stepCalled n (k-start .args .state .now) (k-start .args .rows .now) (k-start .args .segments .now) (k-start .args .handshake .now)) _ (c .before .boundary .ensures ∙ ap₂ (λ (x y : Bool). boundary (k-start .args .state .now) (extentOf (memory (k-start .args .rows .now))) x (ltb (length (k-start .args .handshake .now)) 4 || ltb (length (k-start .args .message .now)) 21) y) (k-list-short .list-short .ensures) (ap₂ _||_ (k-no-handshake .no-handshake .ensures) (k-no-message .no-message .ensures))) (c .if1 .taken)
 
 load-book-requires : tie.Need-load-book-requires
 load-book-requires c κs =
@@ -29,7 +31,7 @@ load-book-requires c κs =
     let k-no-handshake = k-no-message .before in
     let k-list-short = k-no-handshake .before .before in
     let k-start = k-list-short .before .before .before .before .before .before .before in
-    passed (k-start .args .state .now) (length (k-start .args .rows .now)) (less (k-start .args .state .now) (k-start .args .segments .now)) (ltb (length (k-start .args .handshake .now)) 4 || ltb (length (k-start .args .message .now)) 21) (noHandshake (k-start .args .handshake .now) || noMessage (k-start .args .message .now)) (eq-eqb _ _ (sym (c .before .before .boundary .ensures ∙ ap₂ (λ (x y : Bool). boundary (k-start .args .state .now) (length (k-start .args .rows .now)) x (ltb (length (k-start .args .handshake .now)) 4 || ltb (length (k-start .args .message .now)) 21) y) (k-list-short .list-short .ensures) (ap₂ _||_ (k-no-handshake .no-handshake .ensures) (k-no-message .no-message .ensures))) ∙ c .before .if1 .left)) .whole
+    passed (k-start .args .state .now) (extentOf (memory (k-start .args .rows .now))) (less (k-start .args .state .now) (k-start .args .segments .now)) (ltb (length (k-start .args .handshake .now)) 4 || ltb (length (k-start .args .message .now)) 21) (noHandshake (k-start .args .handshake .now) || noMessage (k-start .args .message .now)) (eq-eqb _ _ (sym (c .before .before .boundary .ensures ∙ ap₂ (λ (x y : Bool). boundary (k-start .args .state .now) (extentOf (memory (k-start .args .rows .now))) x (ltb (length (k-start .args .handshake .now)) 4 || ltb (length (k-start .args .message .now)) 21) y) (k-list-short .list-short .ensures) (ap₂ _||_ (k-no-handshake .no-handshake .ensures) (k-no-message .no-message .ensures))) ∙ c .before .if1 .left)) .whole
 
 load-handshake-requires : tie.Need-load-handshake-requires
 load-handshake-requires c κs =
@@ -39,7 +41,7 @@ load-handshake-requires c κs =
     let k-no-handshake = k-no-message .before in
     let k-list-short = k-no-handshake .before .before in
     let k-start = k-list-short .before .before .before .before .before .before .before in
-    lent-two (k-start .args .handshake .now) 4 (k-start .args .message .now) 21 (passed (k-start .args .state .now) (length (k-start .args .rows .now)) (less (k-start .args .state .now) (k-start .args .segments .now)) (ltb (length (k-start .args .handshake .now)) 4 || ltb (length (k-start .args .message .now)) 21) (noHandshake (k-start .args .handshake .now) || noMessage (k-start .args .message .now)) (eq-eqb _ _ (sym (k-boundary .boundary .ensures ∙ ap₂ (λ (x y : Bool). boundary (k-start .args .state .now) (length (k-start .args .rows .now)) x (ltb (length (k-start .args .handshake .now)) 4 || ltb (length (k-start .args .message .now)) 21) y) (k-list-short .list-short .ensures) (ap₂ _||_ (k-no-handshake .no-handshake .ensures) (k-no-message .no-message .ensures))) ∙ k-if1 .if1 .left)) .full) .0
+    lent-two (k-start .args .handshake .now) 4 (k-start .args .message .now) 21 (passed (k-start .args .state .now) (extentOf (memory (k-start .args .rows .now))) (less (k-start .args .state .now) (k-start .args .segments .now)) (ltb (length (k-start .args .handshake .now)) 4 || ltb (length (k-start .args .message .now)) 21) (noHandshake (k-start .args .handshake .now) || noMessage (k-start .args .message .now)) (eq-eqb _ _ (sym (k-boundary .boundary .ensures ∙ ap₂ (λ (x y : Bool). boundary (k-start .args .state .now) (extentOf (memory (k-start .args .rows .now))) x (ltb (length (k-start .args .handshake .now)) 4 || ltb (length (k-start .args .message .now)) 21) y) (k-list-short .list-short .ensures) (ap₂ _||_ (k-no-handshake .no-handshake .ensures) (k-no-message .no-message .ensures))) ∙ k-if1 .if1 .left)) .full) .0
 
 load-message-requires : tie.Need-load-message-requires
 load-message-requires c κs =
@@ -49,7 +51,7 @@ load-message-requires c κs =
     let k-no-handshake = k-no-message .before in
     let k-list-short = k-no-handshake .before .before in
     let k-start = k-list-short .before .before .before .before .before .before .before in
-    lent-two (k-start .args .handshake .now) 4 (k-start .args .message .now) 21 (passed (k-start .args .state .now) (length (k-start .args .rows .now)) (less (k-start .args .state .now) (k-start .args .segments .now)) (ltb (length (k-start .args .handshake .now)) 4 || ltb (length (k-start .args .message .now)) 21) (noHandshake (k-start .args .handshake .now) || noMessage (k-start .args .message .now)) (eq-eqb _ _ (sym (k-boundary .boundary .ensures ∙ ap₂ (λ (x y : Bool). boundary (k-start .args .state .now) (length (k-start .args .rows .now)) x (ltb (length (k-start .args .handshake .now)) 4 || ltb (length (k-start .args .message .now)) 21) y) (k-list-short .list-short .ensures) (ap₂ _||_ (k-no-handshake .no-handshake .ensures) (k-no-message .no-message .ensures))) ∙ k-if1 .if1 .left)) .full) .1
+    lent-two (k-start .args .handshake .now) 4 (k-start .args .message .now) 21 (passed (k-start .args .state .now) (extentOf (memory (k-start .args .rows .now))) (less (k-start .args .state .now) (k-start .args .segments .now)) (ltb (length (k-start .args .handshake .now)) 4 || ltb (length (k-start .args .message .now)) 21) (noHandshake (k-start .args .handshake .now) || noMessage (k-start .args .message .now)) (eq-eqb _ _ (sym (k-boundary .boundary .ensures ∙ ap₂ (λ (x y : Bool). boundary (k-start .args .state .now) (extentOf (memory (k-start .args .rows .now))) x (ltb (length (k-start .args .handshake .now)) 4 || ltb (length (k-start .args .message .now)) 21) y) (k-list-short .list-short .ensures) (ap₂ _||_ (k-no-handshake .no-handshake .ensures) (k-no-message .no-message .ensures))) ∙ k-if1 .if1 .left)) .full) .1
 
 store-book-requires : tie.Need-store-book-requires
 store-book-requires c κs =
@@ -59,7 +61,7 @@ store-book-requires c κs =
     let k-no-handshake = k-no-message .before in
     let k-list-short = k-no-handshake .before .before in
     let k-start = k-list-short .before .before .before .before .before .before .before in
-    passed (k-start .args .state .now) (length (k-start .args .rows .now)) (less (k-start .args .state .now) (k-start .args .segments .now)) (ltb (length (k-start .args .handshake .now)) 4 || ltb (length (k-start .args .message .now)) 21) (noHandshake (k-start .args .handshake .now) || noMessage (k-start .args .message .now)) (eq-eqb _ _ (sym (k-boundary .boundary .ensures ∙ ap₂ (λ (x y : Bool). boundary (k-start .args .state .now) (length (k-start .args .rows .now)) x (ltb (length (k-start .args .handshake .now)) 4 || ltb (length (k-start .args .message .now)) 21) y) (k-list-short .list-short .ensures) (ap₂ _||_ (k-no-handshake .no-handshake .ensures) (k-no-message .no-message .ensures))) ∙ k-if1 .if1 .left)) .whole
+    passed (k-start .args .state .now) (extentOf (memory (k-start .args .rows .now))) (less (k-start .args .state .now) (k-start .args .segments .now)) (ltb (length (k-start .args .handshake .now)) 4 || ltb (length (k-start .args .message .now)) 21) (noHandshake (k-start .args .handshake .now) || noMessage (k-start .args .message .now)) (eq-eqb _ _ (sym (k-boundary .boundary .ensures ∙ ap₂ (λ (x y : Bool). boundary (k-start .args .state .now) (extentOf (memory (k-start .args .rows .now))) x (ltb (length (k-start .args .handshake .now)) 4 || ltb (length (k-start .args .message .now)) 21) y) (k-list-short .list-short .ensures) (ap₂ _||_ (k-no-handshake .no-handshake .ensures) (k-no-message .no-message .ensures))) ∙ k-if1 .if1 .left)) .whole
 
 store-handshake-requires : tie.Need-store-handshake-requires
 store-handshake-requires c κs =
@@ -69,7 +71,7 @@ store-handshake-requires c κs =
     let k-no-handshake = k-no-message .before in
     let k-list-short = k-no-handshake .before .before in
     let k-start = k-list-short .before .before .before .before .before .before .before in
-    lent-two (k-start .args .handshake .now) 4 (k-start .args .message .now) 21 (passed (k-start .args .state .now) (length (k-start .args .rows .now)) (less (k-start .args .state .now) (k-start .args .segments .now)) (ltb (length (k-start .args .handshake .now)) 4 || ltb (length (k-start .args .message .now)) 21) (noHandshake (k-start .args .handshake .now) || noMessage (k-start .args .message .now)) (eq-eqb _ _ (sym (k-boundary .boundary .ensures ∙ ap₂ (λ (x y : Bool). boundary (k-start .args .state .now) (length (k-start .args .rows .now)) x (ltb (length (k-start .args .handshake .now)) 4 || ltb (length (k-start .args .message .now)) 21) y) (k-list-short .list-short .ensures) (ap₂ _||_ (k-no-handshake .no-handshake .ensures) (k-no-message .no-message .ensures))) ∙ k-if1 .if1 .left)) .full) .0
+    lent-two (k-start .args .handshake .now) 4 (k-start .args .message .now) 21 (passed (k-start .args .state .now) (extentOf (memory (k-start .args .rows .now))) (less (k-start .args .state .now) (k-start .args .segments .now)) (ltb (length (k-start .args .handshake .now)) 4 || ltb (length (k-start .args .message .now)) 21) (noHandshake (k-start .args .handshake .now) || noMessage (k-start .args .message .now)) (eq-eqb _ _ (sym (k-boundary .boundary .ensures ∙ ap₂ (λ (x y : Bool). boundary (k-start .args .state .now) (extentOf (memory (k-start .args .rows .now))) x (ltb (length (k-start .args .handshake .now)) 4 || ltb (length (k-start .args .message .now)) 21) y) (k-list-short .list-short .ensures) (ap₂ _||_ (k-no-handshake .no-handshake .ensures) (k-no-message .no-message .ensures))) ∙ k-if1 .if1 .left)) .full) .0
 
 returns-2 : tie.Need-returns-2
 unfolding stepCall
@@ -89,9 +91,9 @@ returns-2 c =
     let k-no-handshake = k-no-message .before in
     let k-list-short = k-no-handshake .before .before in
     let k-start = k-list-short .before .before .before .before .before .before .before in
-    goes-on _ _ (λ (n : ℕ). stepCalled n (k-start .args .state .now) (k-start .args .rows .now) (k-start .args .segments .now) (k-start .args .handshake .now)) _ _ (k-boundary .boundary .ensures ∙ ap₂ (λ (x y : Bool). boundary (k-start .args .state .now) (length (k-start .args .rows .now)) x (ltb (length (k-start .args .handshake .now)) 4 || ltb (length (k-start .args .message .now)) 21) y) (k-list-short .list-short .ensures) (ap₂ _||_ (k-no-handshake .no-handshake .ensures) (k-no-message .no-message .ensures))) (k-if1 .if1 .left)
+    goes-on _ _ (λ (n : ℕ). stepCalled n (k-start .args .state .now) (k-start .args .rows .now) (k-start .args .segments .now) (k-start .args .handshake .now)) _ _ (k-boundary .boundary .ensures ∙ ap₂ (λ (x y : Bool). boundary (k-start .args .state .now) (extentOf (memory (k-start .args .rows .now))) x (ltb (length (k-start .args .handshake .now)) 4 || ltb (length (k-start .args .message .now)) 21) y) (k-list-short .list-short .ensures) (ap₂ _||_ (k-no-handshake .no-handshake .ensures) (k-no-message .no-message .ensures))) (k-if1 .if1 .left)
     (rw (c .number .ensures, k-store-handshake .store-handshake .ensures, k-store-book .store-book .ensures, k-step-sets-status .step-sets-status .ensures, ← k-load-handshake .load-handshake .ensures, ← k-load-book .load-book .ensures, ← k-load-message .load-message .ensures)
-    (step-leaves (k-start .args .state .now) (k-start .args .rows .now) (k-start .args .segments .now) (k-load-book .load-book .result) (k-last-record .last-record .result) (k-last-record .last-record .ensures) (k-load-handshake .load-handshake .result) (k-start .args .handshake .now) (k-load-message .load-message .result) (k-step-by-value .step-by-value .result) _ _ (k-step-by-value .step-by-value .ensures) (k-rewrite-record .rewrite-record .ensures)))
+    (step-leaves ceiling (k-start .args .state .now) (k-start .args .rows .now) (k-start .args .segments .now) (k-load-book .load-book .result) (k-last-record .last-record .result) (k-last-record .last-record .ensures) (k-load-handshake .load-handshake .result) (k-start .args .handshake .now) (k-load-message .load-message .result) (k-step-by-value .step-by-value .result) _ _ (k-step-by-value .step-by-value .ensures) (k-rewrite-record .rewrite-record .ensures)))
 
 pub step-spec : {M : Type 1} → statement M
 step-spec =

@@ -1,6 +1,6 @@
 use Rattle.host_reads.specs.Answers.{Answered, answered, toldIn}
 use Rattle.piece.specs.Piece.{pieceNumber, readMessage}
-use Rattle.piece.specs.Words.{messageWords, readMessageTold}
+use Rattle.piece.specs.Words.{messageList, readMessageTold}
 use Rattle.host_pieces.proofs.Told.{given-none, given-all, length-message, piece-refused}
 use mathlib.Core.List.{[], _∷_, _++_}
 use mathlib.Core.Path.{_≡_, refl, sym, ap, _∙_}
@@ -16,7 +16,7 @@ returns c =
     let k-read-message = c .before .before .before .before in
     let k-start = k-read-message .before .before .before in
     let t : toldIn (readMessageTold (readMessage (now (k-start .args .bytes)))) (now (k-start .args .out)) ≡ answered 7 (now (k-start .args .out)) =
-    ap (λ x. toldIn (readMessageTold x) (now (k-start .args .out))) (sym (k-read-message .read-message .ensures .0) ∙ c .before .before .m .given .1) ∙ given-none (messageWords (c .before .before .m .given .0 .0)) (now (k-start .args .out)) 21 (length-message (c .before .before .m .given .0 .0)) (c .if1 .taken) in
+    ap (λ x. toldIn (readMessageTold x) (now (k-start .args .out))) (sym (k-read-message .read-message .ensures .0) ∙ c .before .before .m .given .1) ∙ given-none (messageList (c .before .before .m .given .0 .0)) (now (k-start .args .out)) 21 (length-message (c .before .before .m .given .0 .0)) (c .if1 .taken) in
     (ap (λ (x : Answered). x .number) (sym t), ap (λ (x : Answered). x .out) (sym t))
 
 returns-2 : tie.Need-returns-2
@@ -32,8 +32,8 @@ returns-2 c =
     let header = k-kind-word .kind-word .result ∷ m .«product_id» .high ∷ m .«product_id» .low ∷ m .sequence ∷ m .«time_us» ∷ [] in
     let sized = ap length (k-event-words .event-words .ensures) ∙ length-event (m .event) in
     let pair = two-puts (now (k-start .args .out)) (k-put .put .last .0) header (k-event-words .event-words .result) (k-put .put .ensures) refl sized in
-    let t : toldIn (readMessageTold (readMessage (now (k-start .args .bytes)))) (now (k-start .args .out)) ≡ answered 0 (messageWords m ++ drop 21 (now (k-start .args .out))) =
-    ap (λ x. toldIn (readMessageTold x) (now (k-start .args .out))) (sym (k-read-message .read-message .ensures .0) ∙ k-m .m .given .1) ∙ given-all (messageWords m) (now (k-start .args .out)) 21 (length-message m) (k-if1 .if1 .left) in
+    let t : toldIn (readMessageTold (readMessage (now (k-start .args .bytes)))) (now (k-start .args .out)) ≡ answered 0 (messageList m ++ drop 21 (now (k-start .args .out))) =
+    ap (λ x. toldIn (readMessageTold x) (now (k-start .args .out))) (sym (k-read-message .read-message .ensures .0) ∙ k-m .m .given .1) ∙ given-all (messageList m) (now (k-start .args .out)) 21 (length-message m) (k-if1 .if1 .left) in
     (ap (λ (x : Answered). x .number) (sym t), (c .before .before .put2 .ensures ∙ pair ∙ rw (k-event-words .event-words .ensures, k-kind-word .kind-word .ensures)) ∙ ap (λ (x : Answered). x .out) (sym t))
 
 returns-3 : tie.Need-returns-3

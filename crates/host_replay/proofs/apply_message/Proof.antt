@@ -1,4 +1,7 @@
+use native.Mathlib.Omega.{arith}
 use borrow.Author.Needs.{needs}
+use Rattle.book.specs.Rows.{mostRows}
+use Rattle.book.specs.Memory.{memory}
 use Rattle.reconstructor_checks.proofs.Own.{rows-ready}
 use Rattle.reconstructor.proofs.Laws.{trusted-ready}
 use Rattle.host_replay.proofs.Runs.{loaded, foreseen, applies, runs-on}
@@ -11,7 +14,7 @@ foresee-requires c κs =
     let a = k-start .args in
     let b = c .before .before .load-book in
     let r = loaded (a .state .now) (a .rows .now) (a .segments .now) (a .places .now) (a .bounds) (b .result) (b .ensures) (k-start .pre .0) in
-    (rows-ready (b .result) (a .rows .now) (r .0), r .1 .within)
+    (rows-ready mostRows (b .result) (memory (a .rows .now)) (omega arith) (r .0), r .1 .within)
 
 apply-indexed-requires : tie.Need-apply-indexed-requires
 apply-indexed-requires c κs =
@@ -19,7 +22,7 @@ apply-indexed-requires c κs =
     let a = k-start .args in
     let b = c .before .before .before .before .before .before .before .load-book in
     let r = loaded (a .state .now) (a .rows .now) (a .segments .now) (a .places .now) (a .bounds) (b .result) (b .ensures) (k-start .pre .0) in
-    (trusted-ready (b .result) (a .rows .now) (r .0), foreseen _ _ _ _ (r .1) (c .before .before .before .before .foresee .ensures .0))
+    (trusted-ready (b .result) (memory (a .rows .now)) (r .0), foreseen _ _ _ _ (r .1) (c .before .before .before .before .foresee .ensures .0))
 
 note-requires : tie.Need-note-requires
 note-requires c κs =
@@ -27,7 +30,7 @@ note-requires c κs =
     let a = k-start .args in
     let b = c .before .before .before .before .before .before .before .before .before .before .before .before .before .before .before .load-book in
     let r = loaded (a .state .now) (a .rows .now) (a .segments .now) (a .places .now) (a .bounds) (b .result) (b .ensures) (k-start .pre .0) in
-    (r .1 .few, rows-ready (b .result) (a .rows .now) (r .0) .few)
+    (r .1 .few, rows-ready mostRows (b .result) (memory (a .rows .now)) (omega arith) (r .0) .few)
 
 store-book-requires : tie.Need-store-book-requires
 store-book-requires c κs = c .before .before .before .before .before .before .before .before .before .before .before .before .before .before .before .before .before .before .before .before .before .before .before .before .before .before .before .pre .0 .whole

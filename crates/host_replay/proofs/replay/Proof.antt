@@ -2,7 +2,7 @@ use mathlib.Core.Path.{sym, ap, _∙_}
 use Prim.Native.Nat.{ℕ}
 use mathlib.Core.Bool.{Bool, false}
 use borrow.Author.Tests.{eq-eqb}
-use lib.ListN.{length}
+use Rattle.book.specs.Memory.{memory, extentOf}
 use Rattle.host_boundary.specs.Boundary.{boundary}
 use Rattle.host_boundary.proofs.Passed.{passed, turned-away}
 use Rattle.host_calls.proofs.Blocks.{less}
@@ -17,13 +17,13 @@ unfolding replayCall
 returns c =
     let k-list-short = c .before .before .before in
     let k-start = k-list-short .before .before .before .before .before .before .before in
-    turned-away _ _ (λ (n : ℕ). replayCalled n (k-start .args .state .now) (k-start .args .rows .now) (k-start .args .segments .now) (k-start .args .answers .now)) _ (c .before .boundary .ensures ∙ ap (λ (x : Bool). boundary (k-start .args .state .now) (length (k-start .args .rows .now)) x false false) (k-list-short .list-short .ensures)) (c .if1 .taken)
+    turned-away _ _ (λ (n : ℕ). replayCalled n (k-start .args .state .now) (k-start .args .rows .now) (k-start .args .segments .now) (k-start .args .answers .now)) _ (c .before .boundary .ensures ∙ ap (λ (x : Bool). boundary (k-start .args .state .now) (extentOf (memory (k-start .args .rows .now))) x false false) (k-list-short .list-short .ensures)) (c .if1 .taken)
 
 load-book-requires : tie.Need-load-book-requires
 load-book-requires c κs =
     let k-list-short = c .before .before .before .before in
     let k-start = k-list-short .before .before .before .before .before .before .before in
-    passed (k-start .args .state .now) (length (k-start .args .rows .now)) (less (k-start .args .state .now) (k-start .args .segments .now)) false false (eq-eqb _ _ (sym (c .before .before .boundary .ensures ∙ ap (λ (x : Bool). boundary (k-start .args .state .now) (length (k-start .args .rows .now)) x false false) (k-list-short .list-short .ensures)) ∙ c .before .if1 .left)) .whole
+    passed (k-start .args .state .now) (extentOf (memory (k-start .args .rows .now))) (less (k-start .args .state .now) (k-start .args .segments .now)) false false (eq-eqb _ _ (sym (c .before .before .boundary .ensures ∙ ap (λ (x : Bool). boundary (k-start .args .state .now) (extentOf (memory (k-start .args .rows .now))) x false false) (k-list-short .list-short .ensures)) ∙ c .before .if1 .left)) .whole
 
 returns-2 : tie.Need-returns-2
 returns-2 c =
@@ -33,7 +33,7 @@ returns-2 c =
     let k-boundary = k-if1 .before in
     let k-list-short = k-boundary .before .before in
     let k-start = k-list-short .before .before .before .before .before .before .before in
-    run-short (k-start .args .state .now) (k-start .args .rows .now) (k-start .args .segments .now) (k-start .args .messages .now) (k-start .args .answers .now) (passed (k-start .args .state .now) (length (k-start .args .rows .now)) (less (k-start .args .state .now) (k-start .args .segments .now)) false false (eq-eqb _ _ (sym (k-boundary .boundary .ensures ∙ ap (λ (x : Bool). boundary (k-start .args .state .now) (length (k-start .args .rows .now)) x false false) (k-list-short .list-short .ensures)) ∙ k-if1 .if1 .left))) (k-load-book .load-book .result) (k-load-book .load-book .ensures) (k-own-checks .own-checks .result) (k-own-checks .own-checks .ensures) (c .before .enum-told .given .1) (c .if2 .taken)
+    run-short (k-start .args .state .now) (k-start .args .rows .now) (k-start .args .segments .now) (k-start .args .messages .now) (k-start .args .answers .now) (passed (k-start .args .state .now) (extentOf (memory (k-start .args .rows .now))) (less (k-start .args .state .now) (k-start .args .segments .now)) false false (eq-eqb _ _ (sym (k-boundary .boundary .ensures ∙ ap (λ (x : Bool). boundary (k-start .args .state .now) (extentOf (memory (k-start .args .rows .now))) x false false) (k-list-short .list-short .ensures)) ∙ k-if1 .if1 .left))) (k-load-book .load-book .result) (k-load-book .load-book .ensures) (k-own-checks .own-checks .result) (k-own-checks .own-checks .ensures) (c .before .enum-told .given .1) (c .if2 .taken)
 
 replay-few-requires : tie.Need-replay-few-requires
 replay-few-requires c κs =
@@ -45,7 +45,7 @@ replay-few-requires c κs =
     let k-boundary = k-if1 .before in
     let k-list-short = k-boundary .before .before in
     let k-start = k-list-short .before .before .before .before .before .before .before in
-    ready (k-start .args .state .now) (k-start .args .rows .now) (k-start .args .segments .now) (k-start .args .messages .now) (k-start .args .answers .now) (passed (k-start .args .state .now) (length (k-start .args .rows .now)) (less (k-start .args .state .now) (k-start .args .segments .now)) false false (eq-eqb _ _ (sym (k-boundary .boundary .ensures ∙ ap (λ (x : Bool). boundary (k-start .args .state .now) (length (k-start .args .rows .now)) x false false) (k-list-short .list-short .ensures)) ∙ k-if1 .if1 .left))) (k-load-book .load-book .result) (k-load-book .load-book .ensures) (k-own-checks .own-checks .result) (k-own-checks .own-checks .ensures) (k-enum-told .enum-told .given .1) (k-if2 .if2 .left)
+    ready (k-start .args .state .now) (k-start .args .rows .now) (k-start .args .segments .now) (k-start .args .messages .now) (k-start .args .answers .now) (passed (k-start .args .state .now) (extentOf (memory (k-start .args .rows .now))) (less (k-start .args .state .now) (k-start .args .segments .now)) false false (eq-eqb _ _ (sym (k-boundary .boundary .ensures ∙ ap (λ (x : Bool). boundary (k-start .args .state .now) (extentOf (memory (k-start .args .rows .now))) x false false) (k-list-short .list-short .ensures)) ∙ k-if1 .if1 .left))) (k-load-book .load-book .result) (k-load-book .load-book .ensures) (k-own-checks .own-checks .result) (k-own-checks .own-checks .ensures) (k-enum-told .enum-told .given .1) (k-if2 .if2 .left)
 
 replay-many-requires : tie.Need-replay-many-requires
 replay-many-requires c κs =
@@ -57,7 +57,7 @@ replay-many-requires c κs =
     let k-boundary = k-if1 .before in
     let k-list-short = k-boundary .before .before in
     let k-start = k-list-short .before .before .before .before .before .before .before in
-    ready (k-start .args .state .now) (k-start .args .rows .now) (k-start .args .segments .now) (k-start .args .messages .now) (k-start .args .answers .now) (passed (k-start .args .state .now) (length (k-start .args .rows .now)) (less (k-start .args .state .now) (k-start .args .segments .now)) false false (eq-eqb _ _ (sym (k-boundary .boundary .ensures ∙ ap (λ (x : Bool). boundary (k-start .args .state .now) (length (k-start .args .rows .now)) x false false) (k-list-short .list-short .ensures)) ∙ k-if1 .if1 .left))) (k-load-book .load-book .result) (k-load-book .load-book .ensures) (k-own-checks .own-checks .result) (k-own-checks .own-checks .ensures) (k-enum-told .enum-told .given .1) (k-if2 .if2 .left)
+    ready (k-start .args .state .now) (k-start .args .rows .now) (k-start .args .segments .now) (k-start .args .messages .now) (k-start .args .answers .now) (passed (k-start .args .state .now) (extentOf (memory (k-start .args .rows .now))) (less (k-start .args .state .now) (k-start .args .segments .now)) false false (eq-eqb _ _ (sym (k-boundary .boundary .ensures ∙ ap (λ (x : Bool). boundary (k-start .args .state .now) (extentOf (memory (k-start .args .rows .now))) x false false) (k-list-short .list-short .ensures)) ∙ k-if1 .if1 .left))) (k-load-book .load-book .result) (k-load-book .load-book .ensures) (k-own-checks .own-checks .result) (k-own-checks .own-checks .ensures) (k-enum-told .enum-told .given .1) (k-if2 .if2 .left)
 
 returns-3 : tie.Need-returns-3
 returns-3 c =
@@ -67,7 +67,7 @@ returns-3 c =
     let k-boundary = k-if1 .before in
     let k-list-short = k-boundary .before .before in
     let k-start = k-list-short .before .before .before .before .before .before .before in
-    run-refused (k-start .args .state .now) (k-start .args .rows .now) (k-start .args .segments .now) (k-start .args .messages .now) (k-start .args .answers .now) (passed (k-start .args .state .now) (length (k-start .args .rows .now)) (less (k-start .args .state .now) (k-start .args .segments .now)) false false (eq-eqb _ _ (sym (k-boundary .boundary .ensures ∙ ap (λ (x : Bool). boundary (k-start .args .state .now) (length (k-start .args .rows .now)) x false false) (k-list-short .list-short .ensures)) ∙ k-if1 .if1 .left))) (k-load-book .load-book .result) (k-load-book .load-book .ensures) (k-own-checks .own-checks .result) (k-own-checks .own-checks .ensures) _ (c .before .before .why .given .1) _ (c .number .ensures)
+    run-refused (k-start .args .state .now) (k-start .args .rows .now) (k-start .args .segments .now) (k-start .args .messages .now) (k-start .args .answers .now) (passed (k-start .args .state .now) (extentOf (memory (k-start .args .rows .now))) (less (k-start .args .state .now) (k-start .args .segments .now)) false false (eq-eqb _ _ (sym (k-boundary .boundary .ensures ∙ ap (λ (x : Bool). boundary (k-start .args .state .now) (extentOf (memory (k-start .args .rows .now))) x false false) (k-list-short .list-short .ensures)) ∙ k-if1 .if1 .left))) (k-load-book .load-book .result) (k-load-book .load-book .ensures) (k-own-checks .own-checks .result) (k-own-checks .own-checks .ensures) _ (c .before .before .why .given .1) _ (c .number .ensures)
 
 returns-4 : tie.Need-returns-4
 returns-4 c =
@@ -80,7 +80,7 @@ returns-4 c =
     let k-boundary = k-if1 .before in
     let k-list-short = k-boundary .before .before in
     let k-start = k-list-short .before .before .before .before .before .before .before in
-    run-passed (k-start .args .state .now) (k-start .args .rows .now) (k-start .args .segments .now) (k-start .args .messages .now) (k-start .args .answers .now) (passed (k-start .args .state .now) (length (k-start .args .rows .now)) (less (k-start .args .state .now) (k-start .args .segments .now)) false false (eq-eqb _ _ (sym (k-boundary .boundary .ensures ∙ ap (λ (x : Bool). boundary (k-start .args .state .now) (length (k-start .args .rows .now)) x false false) (k-list-short .list-short .ensures)) ∙ k-if1 .if1 .left))) (k-load-book .load-book .result) (k-load-book .load-book .ensures) (k-own-checks .own-checks .result) (k-own-checks .own-checks .ensures) _ (k-enum-told .enum-told .given .1) (k-if2 .if2 .left) (k-replay-few .replay-few .ensures)
+    run-passed (k-start .args .state .now) (k-start .args .rows .now) (k-start .args .segments .now) (k-start .args .messages .now) (k-start .args .answers .now) (passed (k-start .args .state .now) (extentOf (memory (k-start .args .rows .now))) (less (k-start .args .state .now) (k-start .args .segments .now)) false false (eq-eqb _ _ (sym (k-boundary .boundary .ensures ∙ ap (λ (x : Bool). boundary (k-start .args .state .now) (extentOf (memory (k-start .args .rows .now))) x false false) (k-list-short .list-short .ensures)) ∙ k-if1 .if1 .left))) (k-load-book .load-book .result) (k-load-book .load-book .ensures) (k-own-checks .own-checks .result) (k-own-checks .own-checks .ensures) _ (k-enum-told .enum-told .given .1) (k-if2 .if2 .left) (k-replay-few .replay-few .ensures)
 
 returns-5 : tie.Need-returns-5
 returns-5 c =
@@ -93,7 +93,7 @@ returns-5 c =
     let k-boundary = k-if1 .before in
     let k-list-short = k-boundary .before .before in
     let k-start = k-list-short .before .before .before .before .before .before .before in
-    run-passed (k-start .args .state .now) (k-start .args .rows .now) (k-start .args .segments .now) (k-start .args .messages .now) (k-start .args .answers .now) (passed (k-start .args .state .now) (length (k-start .args .rows .now)) (less (k-start .args .state .now) (k-start .args .segments .now)) false false (eq-eqb _ _ (sym (k-boundary .boundary .ensures ∙ ap (λ (x : Bool). boundary (k-start .args .state .now) (length (k-start .args .rows .now)) x false false) (k-list-short .list-short .ensures)) ∙ k-if1 .if1 .left))) (k-load-book .load-book .result) (k-load-book .load-book .ensures) (k-own-checks .own-checks .result) (k-own-checks .own-checks .ensures) _ (k-enum-told .enum-told .given .1) (k-if2 .if2 .left) (k-replay-many .replay-many .ensures)
+    run-passed (k-start .args .state .now) (k-start .args .rows .now) (k-start .args .segments .now) (k-start .args .messages .now) (k-start .args .answers .now) (passed (k-start .args .state .now) (extentOf (memory (k-start .args .rows .now))) (less (k-start .args .state .now) (k-start .args .segments .now)) false false (eq-eqb _ _ (sym (k-boundary .boundary .ensures ∙ ap (λ (x : Bool). boundary (k-start .args .state .now) (extentOf (memory (k-start .args .rows .now))) x false false) (k-list-short .list-short .ensures)) ∙ k-if1 .if1 .left))) (k-load-book .load-book .result) (k-load-book .load-book .ensures) (k-own-checks .own-checks .result) (k-own-checks .own-checks .ensures) _ (k-enum-told .enum-told .given .1) (k-if2 .if2 .left) (k-replay-many .replay-many .ensures)
 
 pub replay-spec : {M : Type 1} → statement M
 replay-spec =

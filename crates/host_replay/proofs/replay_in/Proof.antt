@@ -1,8 +1,8 @@
 use native.Mathlib.Omega.{arith}
-use lib.ListN.{length}
-use Prim.Native.Nat.{_/_}
 use borrow.Author.Needs.{needs}
-use Rattle.book.specs.Rows.{ceiling}
+use Rattle.book.specs.Memory.{memory}
+use Rattle.reconstructor_state.specs.State.{ceiling}
+use Rattle.host_records.specs.Records.{recordsIn}
 use Rattle.reconstructor_checks.proofs.Own.{rows-ready, trusted}
 use Rattle.host_replay.proofs.Runs.{runs-start}
 use Rattle.host_replay.proofs.replay_in.Statement.{statement}
@@ -13,14 +13,14 @@ mark-rows-requires c κs =
     let k-start = c .before .before .before .before .before .before .before .before .before .before in
     let a = k-start .args in
     let b = c .before .before .load-book in
-    (rows-ready (b .result) (a .rows .now) (trusted ceiling (b .result) (a .rows .now) (length (a .segments .now) / 8) (rw (b .ensures) (k-start .pre .0 .usable))), k-start .pre .1)
+    (rows-ready ceiling (b .result) (memory (a .rows .now)) (omega arith) (trusted ceiling (b .result) (memory (a .rows .now)) (recordsIn (a .segments .now)) (rw (b .ensures) (k-start .pre .0 .usable))), k-start .pre .1)
 
 bounds-of-requires : tie.Need-bounds-of-requires
 bounds-of-requires c κs =
     let k-start = c .before .before .before .before .before .before .before .before .before .before .before .before .before .before in
     let a = k-start .args in
     let b = c .before .before .before .before .before .before .load-book in
-    rows-ready (b .result) (a .rows .now) (trusted ceiling (b .result) (a .rows .now) (length (a .segments .now) / 8) (rw (b .ensures) (k-start .pre .0 .usable)))
+    rows-ready ceiling (b .result) (memory (a .rows .now)) (omega arith) (trusted ceiling (b .result) (memory (a .rows .now)) (recordsIn (a .segments .now)) (rw (b .ensures) (k-start .pre .0 .usable)))
 
 replay-from-requires : tie.Need-replay-from-requires
 replay-from-requires c κs =
