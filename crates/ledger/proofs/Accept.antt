@@ -10,11 +10,10 @@ use Rattle.message.specs.declared.L3Message.{L3Message}
 use Rattle.piece.specs.declared.ReadSnapshot.{ReadSnapshot}
 use Rattle.piece.specs.declared.ReadSnapshot.the-variants as pieces
 use Rattle.piece.specs.Piece.{readSnapshot}
-use Rattle.book.specs.Rows.{ceiling}
 use Rattle.reconstructor_answers.specs.declared.ApplyAnswer.{ApplyAnswer}
 use Rattle.reconstructor_answers.specs.declared.InvalidationKind.{InvalidationKind}
 use Rattle.reconstructor_state.specs.declared.VenueRules.{VenueRules}
-use Rattle.reconstructor_state.specs.State.{View, Lengths, lastOf}
+use Rattle.reconstructor_state.specs.State.{ceiling, View, Lengths, lastOf}
 use Rattle.reconstructor.specs.Refusals.{gateRefusal, turnRefusal}
 use Rattle.reconstructor.proofs.Kept.{turn-event}
 use Rattle.reconstructor_bootstrap.specs.declared.SnapshotAnswer.{SnapshotAnswer}
@@ -50,11 +49,11 @@ module _ (c : Config) (n : Lengths) (three : Bool) (w : View) where
   step-applies h m q = step-settled _ _ _ q .2
 
 by-tallies : (v : VenueRules) (m : L3Message) (w : View) (f : Figure) (o : Outcome)
-    → (o ≡ accepted → turnRefusal v (w .line) (lastOf (w .status)) m ≡ none) → Tallies f (w .line) → Tallies (figureBy m o w f) (viewBy m o w .line)
+    → (o ≡ accepted → turnRefusal v (w .line) (lastOf (w .status)) m ≡ none) → Tallies f (w .line) → Tallies (figureBy v m o w f) (viewBy v m o w .line)
 by-tallies v m w f refused h t = t
 by-tallies v m w f (invalidates k) h t = t
 by-tallies v m w f dropped h t = t
-by-tallies v m w f accepted h t = event-tallies v (w .line) (m .event) f t (turn-event v (w .line) (lastOf (w .status)) m (h refl))
+by-tallies v m w f accepted h t = event-tallies v (w .line) (m .sequence) (m .event) f t (turn-event v (w .line) (lastOf (w .status)) m (h refl))
 
 boot-tallies : (k : Option SnapshotAnswer) (s : ReadSnapshot) (bytes : List ℕ) (w : View) (f : Figure) → Tallies f (w .line)
     → Tallies (figureBoot k s bytes f) (viewBoot k s bytes w .line)

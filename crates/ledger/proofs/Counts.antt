@@ -11,11 +11,7 @@ use lib.Dec.{eqb, ltb}
 use lib.ListN.{length}
 use Rattle.message.specs.declared.L3Message.{L3Message}
 use Rattle.message.specs.Values.{eventInRange}
-use Rattle.piece.specs.declared.ReadSnapshot.{ReadSnapshot}
-use Rattle.piece.specs.declared.ReadSnapshot.the-variants as pieces
-use Rattle.piece.specs.declared.PieceError.the-variants as errors
-use Rattle.piece.specs.Piece.{readSnapshot}
-use Rattle.book.specs.Rows.{ceiling, rowsOf, lineOf}
+use Rattle.book.specs.Memory.{Memory, Extent, extentOf, lineIn}
 use Rattle.reconstructor_answers.specs.declared.ApplyAnswer.{ApplyAnswer}
 use Rattle.reconstructor_answers.specs.declared.ApplyAnswer.the-variants as answers
 use Rattle.reconstructor_answers.specs.declared.InvalidationKind.{InvalidationKind}
@@ -24,25 +20,26 @@ use Rattle.reconstructor_counts.specs.declared.Counter.{Counter}
 use Rattle.reconstructor_counts.specs.declared.Counter.the-variants as counters
 use Rattle.reconstructor_counts.specs.Counts.{largest, saturated, raisedAt, placeOf, counted}
 use Rattle.reconstructor_segments.specs.declared.Segment.{Segment}
+use Rattle.reconstructor_segments.specs.Segments.{lastSegment}
 use Rattle.reconstructor_state.specs.declared.BookReconstructor.{BookReconstructor}
-use Rattle.reconstructor_state.specs.State.{View, Lengths, lengthsOf, lastOf, segmentOf}
+use Rattle.reconstructor_state.specs.State.{ceiling, View, Lengths, lengthsOf, lastOf, segmentOf}
 use Rattle.reconstructor_state.proofs.Checks.{fails, goes-on, first-fails, first-on}
 use Rattle.reconstructor_checks.specs.Own.{Usable, overCeiling, tooShort}
 use Rattle.reconstructor_plan.specs.Rules.{eventDeed}
 use Rattle.reconstructor.specs.Refusals.{gateRefusal, turnRefusal}
-use Rattle.reconstructor.specs.Applied.{refusedReply, invalidatedReply, acceptedReply, accepted as acceptedCore, settled, gated, bookGate, applied}
+use Rattle.reconstructor.specs.Applied.{refusedReply, invalidatedReply, acceptedReply, accepted as acceptedCore, decided, answered, bookGate, appliedTo, applied}
 use Rattle.reconstructor.proofs.Laws.{gate-trusted}
 use Rattle.reconstructor_bootstrap.specs.declared.SnapshotAnswer.{SnapshotAnswer}
 use Rattle.reconstructor_bootstrap.specs.declared.SnapshotAnswer.the-variants as snapshots
 use Rattle.reconstructor_bootstrap.specs.Snapshot.{bootRefusal}
 use Rattle.reconstructor_bootstrap.specs.Bootstrap as boot
-use Rattle.reconstructor_bootstrap.specs.Bootstrap.{taken, bootstrapped}
-use Rattle.reconstructor_bootstrap.proofs.Laws.{refusalOf, refused-is}
+use Rattle.reconstructor_bootstrap.specs.Bootstrap.{bootstrapped}
+use Rattle.reconstructor_bootstrap.proofs.Laws.{refusalOf, refused-is, is-accepted}
 use Rattle.reconstructor_handshake.specs.declared.Handshake.{Handshake}
 use Rattle.reconstructor_handshake.specs.Step.{otherSegment, stepRefusal, drops, stepped}
 use Rattle.reconstructor_handshake.proofs.Step.{unusable-step, other-step, out-of-range-step, dropped-step, decided-step}
 use Rattle.ledger.specs.Ledger.{Config, Call, Read as Asked, bootstrap, apply, step, read, blank, feedView}
-use Rattle.ledger.specs.World.{World, lentRows, lentSegments, perform, run, Fits, Lendable, freshWorld}
+use Rattle.ledger.specs.World.{World, lentMemory, lentSegments, perform, run, Fits, Lendable, freshWorld}
 use Rattle.ledger.specs.Counts.{answerPlace, messagePlace, snapshotPlace, applyPlace, placeIn, hit, timesIn, upTo, countsBy}
 use Rattle.ledger.proofs.Stands.{configOf, seen, Starts, own-none, boot-same, same-start}
 use Rattle.ledger.proofs.Follow.{Follows, early, early-own, early-applied, early-refusal, lengths-are, same-view, usable-now, starts-now, boot-follows, apply-follows, step-follows, fresh-follows}
@@ -105,77 +102,72 @@ counted-up a (some p) k e = ap (λ (z : MessageCounts). counted z p) e ∙ count
 
 -- ---- a call by value, lent enough
 
-taken-is : (top : ℕ) (b : BookReconstructor) (ws : List ℕ) (sg : List Segment) (bytes : List ℕ) → refusalOf top b ws sg bytes ≡ none
-    → bootstrapped top b ws sg bytes ≡ taken (readSnapshot bytes) b ws sg bytes
-unfolding bootstrapped
-taken-is top b ws sg bytes h = ap (λ o. boot.settled o b ws sg (taken (readSnapshot bytes) b ws sg bytes)) h
+refused-counted : (b : BookReconstructor) (mem : Memory) (g : Segment) (m : L3Message) (a : ApplyAnswer) → answered b mem g m (some a) .book .counts ≡ countedBy (answerPlace a) (b .counts)
+unfolding answered refusedReply
+refused-counted b mem g m (answers.Applied a) = refl
+refused-counted b mem g m (answers.Unusable e) = refl
+refused-counted b mem g m answers.AmountOutOfRange = refl
+refused-counted b mem g m answers.WrongProduct = refl
+refused-counted b mem g m answers.NotBootstrapped = refl
+refused-counted b mem g m (answers.Invalidated i) = refl
+refused-counted b mem g m (answers.AwaitingSnapshot i) = refl
 
-refused-counted : (b : BookReconstructor) (ws : List ℕ) (sg : List Segment) (m : L3Message) (a : ApplyAnswer) → gated b ws sg m (some a) .book .counts ≡ countedBy (answerPlace a) (b .counts)
-unfolding gated refusedReply
-refused-counted b ws sg m (answers.Applied a) = refl
-refused-counted b ws sg m (answers.Unusable e) = refl
-refused-counted b ws sg m answers.AmountOutOfRange = refl
-refused-counted b ws sg m answers.WrongProduct = refl
-refused-counted b ws sg m answers.NotBootstrapped = refl
-refused-counted b ws sg m (answers.Invalidated i) = refl
-refused-counted b ws sg m (answers.AwaitingSnapshot i) = refl
+decided-counted : (b : BookReconstructor) (mem : Memory) (m : L3Message) (t : Option InvalidationKind)
+    → decided b mem (lastOf (b .status)) m t .book .counts ≡ countedBy (messagePlace (b .rules) (lineIn mem (b .rows)) (m .event) none t) (b .counts)
+unfolding decided invalidatedReply acceptedCore acceptedReply eventDeed
+decided-counted b mem m (some k) = refl
+decided-counted b mem m none = refl
 
-settled-counted : (b : BookReconstructor) (ws : List ℕ) (m : L3Message) (t : Option InvalidationKind)
-    → settled b ws (lastOf (b .status)) m t .book .counts ≡ countedBy (messagePlace (lineOf (rowsOf ws (b .rows))) (m .event) none t) (b .counts)
-unfolding settled invalidatedReply acceptedCore acceptedReply eventDeed
-settled-counted b ws m (some k) = refl
-settled-counted b ws m none = refl
+answered-counted : (b : BookReconstructor) (mem : Memory) (g : Segment) (m : L3Message) (o : Option ApplyAnswer)
+    → answered b mem g m o .book .counts
+    ≡ countedBy (messagePlace (b .rules) (lineIn mem (b .rows)) (m .event) o (turnRefusal (b .rules) (lineIn mem (b .rows)) (lastOf (b .status)) m)) (b .counts)
+unfolding answered
+answered-counted b mem g m (some a) = refused-counted b mem g m a
+answered-counted b mem g m none = decided-counted b mem m (turnRefusal (b .rules) (lineIn mem (b .rows)) (lastOf (b .status)) m)
 
-gated-counted : (b : BookReconstructor) (ws : List ℕ) (sg : List Segment) (m : L3Message) (o : Option ApplyAnswer)
-    → gated b ws sg m o .book .counts
-    ≡ countedBy (messagePlace (lineOf (rowsOf ws (b .rows))) (m .event) o (turnRefusal (b .rules) (lineOf (rowsOf ws (b .rows))) (lastOf (b .status)) m)) (b .counts)
-unfolding gated
-gated-counted b ws sg m (some a) = refused-counted b ws sg m a
-gated-counted b ws sg m none = settled-counted b ws m (turnRefusal (b .rules) (lineOf (rowsOf ws (b .rows))) (lastOf (b .status)) m)
-
-module _ (b : BookReconstructor) (ws : List ℕ) (sg : List Segment) (s : ℕ) (u : Usable ceiling b ws (length sg)) (st : Starts s b sg) where
-  gate-same : (m : L3Message) → gateRefusal ceiling (b .«product_id») (b .rules) (lengthsOf ws sg) false (seen s b ws) m ≡ bookGate ceiling b ws sg m
+module _ (b : BookReconstructor) (mem : Memory) (sg : List Segment) (s : ℕ) (u : Usable ceiling b mem (length sg)) (st : Starts s b sg) where
+  gate-same : (m : L3Message) → gateRefusal ceiling (b .«product_id») (b .rules) (lengthsOf mem sg) false (seen s b mem) m ≡ bookGate ceiling b mem (length sg) (lastSegment sg (b .segments)) m
   unfolding gateRefusal
-  gate-same m = first-on _ _ _ _ (own-none b ws sg u) refl ∙ sym (gate-trusted ceiling b ws sg m u)
+  gate-same m = first-on _ _ _ _ (own-none b mem sg u) refl ∙ sym (gate-trusted ceiling b mem (length sg) (lastSegment sg (b .segments)) m u)
 
-  apply-counted : (m : L3Message) → applied ceiling b ws sg m .book .counts ≡ countedBy (applyPlace (configOf b) (seen s b ws) (lengthsOf ws sg) m) (b .counts)
-  unfolding applied applyPlace
-  apply-counted m = rw (gate-same m) (gated-counted b ws sg m (bookGate ceiling b ws sg m))
+  apply-counted : (m : L3Message) → applied ceiling b mem sg m .book .counts ≡ countedBy (applyPlace (configOf b) (seen s b mem) (lengthsOf mem sg) m) (b .counts)
+  unfolding applied appliedTo applyPlace
+  apply-counted m = rw (gate-same m) (answered-counted b mem (lastSegment sg (b .segments)) m (bookGate ceiling b mem (length sg) (lastSegment sg (b .segments)) m))
 
   module _ (h : Handshake) (m : L3Message) where
     abbrev place : Option Counter
-    place = placeIn (configOf b) (seen s b ws) (step (lengthsOf ws sg) h m)
+    place = placeIn (configOf b) (seen s b mem) (step (lengthsOf mem sg) h m)
 
     other-place : otherSegment h (segmentOf b) (b .segments) ≡ true → place ≡ none
     unfolding placeIn stepRefusal
-    other-place p = rw (first-on _ _ _ _ (own-none b ws sg u) (fails _ _ _ p))
+    other-place p = rw (first-on _ _ _ _ (own-none b mem sg u) (fails _ _ _ p))
 
     range-place : otherSegment h (segmentOf b) (b .segments) ≡ false → not (eventInRange (m .event)) ≡ true → place ≡ none
     unfolding placeIn stepRefusal
-    range-place p q = rw (first-on _ _ _ _ (own-none b ws sg u) (goes-on _ _ _ _ p (fails _ _ _ q)))
+    range-place p q = rw (first-on _ _ _ _ (own-none b mem sg u) (goes-on _ _ _ _ p (fails _ _ _ q)))
 
     through-place : otherSegment h (segmentOf b) (b .segments) ≡ false → not (eventInRange (m .event)) ≡ false
-        → place ≡ cond (drops (b .«product_id») s m) (some counters.HandshakeDropped) (applyPlace (configOf b) (seen s b ws) (lengthsOf ws sg) m)
+        → place ≡ cond (drops (b .«product_id») s m) (some counters.HandshakeDropped) (applyPlace (configOf b) (seen s b mem) (lengthsOf mem sg) m)
     unfolding placeIn stepRefusal
-    through-place p q = rw (first-on _ _ _ _ (own-none b ws sg u) (goes-on _ _ _ _ p (goes-on _ _ _ _ q refl)))
+    through-place p q = rw (first-on _ _ _ _ (own-none b mem sg u) (goes-on _ _ _ _ p (goes-on _ _ _ _ q refl)))
 
-    step-counted : stepped ceiling h b ws sg m .book .counts ≡ countedBy place (b .counts)
+    step-counted : stepped ceiling h b mem sg m .book .counts ≡ countedBy place (b .counts)
     step-counted = go₁ (otherSegment h (segmentOf b) (b .segments)) refl
       where
         go₃ : (p : otherSegment h (segmentOf b) (b .segments) ≡ false) (q : not (eventInRange (m .event)) ≡ false) (d : Bool)
-            → drops (b .«product_id») s m ≡ d → stepped ceiling h b ws sg m .book .counts ≡ countedBy place (b .counts)
+            → drops (b .«product_id») s m ≡ d → stepped ceiling h b mem sg m .book .counts ≡ countedBy place (b .counts)
         go₃ p q true e =
-            rw (through-place p q, e, dropped-step h b ws sg m u p q (ap (λ (x : ℕ). drops (b .«product_id») x m) (same-start b ws sg s u st h m p) ∙ e))
+            rw (through-place p q, e, dropped-step ceiling h b mem sg m u p q (ap (λ (x : ℕ). drops (b .«product_id») x m) (same-start b mem sg s u st h m p) ∙ e))
         go₃ p q false e =
-            rw (through-place p q, e, decided-step h b ws sg m u p q (ap (λ (x : ℕ). drops (b .«product_id») x m) (same-start b ws sg s u st h m p) ∙ e)) (apply-counted m)
+            rw (through-place p q, e, decided-step ceiling h b mem sg m u p q (ap (λ (x : ℕ). drops (b .«product_id») x m) (same-start b mem sg s u st h m p) ∙ e)) (apply-counted m)
 
         go₂ : (p : otherSegment h (segmentOf b) (b .segments) ≡ false) (r : Bool) → not (eventInRange (m .event)) ≡ r
-            → stepped ceiling h b ws sg m .book .counts ≡ countedBy place (b .counts)
-        go₂ p true q = rw (range-place p q, out-of-range-step h b ws sg m u p q)
+            → stepped ceiling h b mem sg m .book .counts ≡ countedBy place (b .counts)
+        go₂ p true q = rw (range-place p q, out-of-range-step ceiling h b mem sg m u p q)
         go₂ p false q = go₃ p q (drops (b .«product_id») s m) refl
 
-        go₁ : (o : Bool) → otherSegment h (segmentOf b) (b .segments) ≡ o → stepped ceiling h b ws sg m .book .counts ≡ countedBy place (b .counts)
-        go₁ true p = rw (other-place p, other-step h b ws sg m u p)
+        go₁ : (o : Bool) → otherSegment h (segmentOf b) (b .segments) ≡ o → stepped ceiling h b mem sg m .book .counts ≡ countedBy place (b .counts)
+        go₁ true p = rw (other-place p, other-step ceiling h b mem sg m u p)
         go₁ false p = go₂ p (not (eventInRange (m .event))) refl
 
   module _ (bytes : List ℕ) where
@@ -187,18 +179,13 @@ module _ (b : BookReconstructor) (ws : List ℕ) (sg : List Segment) (s : ℕ) (
     rejected-counted snapshots.ListFull = refl
     rejected-counted (snapshots.Rejected e) = refl
 
-    taken-counted : (r : ReadSnapshot) → taken r b ws sg bytes .book .counts ≡ b .counts
-    taken-counted (pieces.Refused errors.NotAPiece) = refl
-    taken-counted (pieces.Refused errors.OutOfRange) = refl
-    taken-counted (pieces.Snapshot x) = refl
-
-    boot-counted : bootstrapped ceiling b ws sg bytes .book .counts ≡ countedBy (placeIn (configOf b) (seen s b ws) (bootstrap (lengthsOf ws sg) bytes)) (b .counts)
+    boot-counted : bootstrapped ceiling b mem sg bytes .book .counts ≡ countedBy (placeIn (configOf b) (seen s b mem) (bootstrap (lengthsOf mem sg) bytes)) (b .counts)
     unfolding placeIn
-    boot-counted = rw (boot-same b ws sg s u st bytes) (go (refusalOf ceiling b ws sg bytes) refl)
+    boot-counted = rw (boot-same b mem sg s u st bytes) (go (refusalOf ceiling b mem sg bytes) refl)
       where
-        go : (o : Option SnapshotAnswer) → refusalOf ceiling b ws sg bytes ≡ o → bootstrapped ceiling b ws sg bytes .book .counts ≡ countedBy (snapshotPlace o) (b .counts)
-        go (some x) q = ap (λ (p : boot.Parts). p .book .counts) (refused-is ceiling b ws sg bytes x q) ∙ rejected-counted x
-        go none q = ap (λ (p : boot.Parts). p .book .counts) (taken-is ceiling b ws sg bytes q) ∙ taken-counted (readSnapshot bytes)
+        go : (o : Option SnapshotAnswer) → refusalOf ceiling b mem sg bytes ≡ o → bootstrapped ceiling b mem sg bytes .book .counts ≡ countedBy (snapshotPlace o) (b .counts)
+        go (some x) q = ap (λ (p : boot.Parts). p .book .counts) (refused-is ceiling b mem sg bytes x q) ∙ rejected-counted x
+        go none q = ap (λ (p : boot.Parts). p .book .counts) (is-accepted ceiling b mem sg bytes q .is)
 
 -- ---- lent too little: not counted
 
@@ -217,9 +204,9 @@ module _ (c : Config) (n : Lengths) (v : View) (q : (overCeiling ceiling (c .rul
 
 -- ---- one call of a book that follows the ledger
 
-module _ (c : Config) (r s : ℕ) (w : World) (v : View) (f : Follows c r s w v) (n : Lengths) (fits : Fits r s n) where
-  abbrev ws : List ℕ
-  ws = lentRows n w
+module _ (c : Config) (r : Extent) (s : ℕ) (w : World) (v : View) (f : Follows c r s w v) (n : Lengths) (fits : Fits r s n) where
+  abbrev mem : Memory
+  mem = lentMemory n w
 
   abbrev sg : List Segment
   sg = lentSegments n w
@@ -231,39 +218,39 @@ module _ (c : Config) (r s : ℕ) (w : World) (v : View) (f : Follows c r s w v)
   unfolding perform placeIn
   apply-counts m = go little refl
     where
-      go : (b : Bool) → little ≡ b → applied ceiling (w .book) ws sg m .book .counts ≡ countedBy (applyPlace c v n m) (w .book .counts)
+      go : (b : Bool) → little ≡ b → applied ceiling (w .book) mem sg m .book .counts ≡ countedBy (applyPlace c v n m) (w .book .counts)
       go true q = rw (early-apply-place c n v q m, early-applied c r s w v f n fits q m .0)
       go false q =
           rw (f .stands .config, lengths-are c r s w v f n fits, same-view c r s w v f n fits q) at
-          (apply-counted (w .book) ws sg (v .startSeq) (usable-now c r s w v f n fits q) (starts-now c r s w v f n fits q) m)
+          (apply-counted (w .book) mem sg (v .startSeq) (usable-now c r s w v f n fits q) (starts-now c r s w v f n fits q) m)
 
   step-counts : (h : Handshake) (m : L3Message) → perform w (step n h m) .book .counts ≡ countedBy (placeIn c v (step n h m)) (w .book .counts)
   unfolding perform
   step-counts h m = go little refl
     where
-      go : (b : Bool) → little ≡ b → stepped ceiling h (w .book) ws sg m .book .counts ≡ countedBy (placeIn c v (step n h m)) (w .book .counts)
+      go : (b : Bool) → little ≡ b → stepped ceiling h (w .book) mem sg m .book .counts ≡ countedBy (placeIn c v (step n h m)) (w .book .counts)
       go true q =
           let e = early-own c r s w v f n fits q in
-          rw (early-step-place c n v q h m, unusable-step h (w .book) ws sg m (e .0) (e .1))
+          rw (early-step-place c n v q h m, unusable-step ceiling h (w .book) mem sg m (e .0) (e .1))
       go false q =
           rw (f .stands .config, lengths-are c r s w v f n fits, same-view c r s w v f n fits q) at
-          (step-counted (w .book) ws sg (v .startSeq) (usable-now c r s w v f n fits q) (starts-now c r s w v f n fits q) h m)
+          (step-counted (w .book) mem sg (v .startSeq) (usable-now c r s w v f n fits q) (starts-now c r s w v f n fits q) h m)
 
   boot-counts : (bytes : List ℕ) → perform w (bootstrap n bytes) .book .counts ≡ countedBy (placeIn c v (bootstrap n bytes)) (w .book .counts)
   unfolding perform
   boot-counts bytes = go little refl
     where
-      go : (b : Bool) → little ≡ b → bootstrapped ceiling (w .book) ws sg bytes .book .counts ≡ countedBy (placeIn c v (bootstrap n bytes)) (w .book .counts)
+      go : (b : Bool) → little ≡ b → bootstrapped ceiling (w .book) mem sg bytes .book .counts ≡ countedBy (placeIn c v (bootstrap n bytes)) (w .book .counts)
       go true q =
           let e = early-own c r s w v f n fits q in
-          rw (early-boot-place c n v q bytes, refused-is ceiling (w .book) ws sg bytes (snapshots.Unusable (e .0)) (early-refusal (w .book) ws sg bytes (e .0) (e .1)))
+          rw (early-boot-place c n v q bytes, refused-is ceiling (w .book) mem sg bytes (snapshots.Unusable (e .0)) (early-refusal (w .book) mem sg bytes (e .0) (e .1)))
       go false q =
           rw (f .stands .config, lengths-are c r s w v f n fits, same-view c r s w v f n fits q) at
-          (boot-counted (w .book) ws sg (v .startSeq) (usable-now c r s w v f n fits q) (starts-now c r s w v f n fits q) bytes)
+          (boot-counted (w .book) mem sg (v .startSeq) (usable-now c r s w v f n fits q) (starts-now c r s w v f n fits q) bytes)
 
 -- ---- any list of calls
 
-module _ (c : Config) (r s : ℕ) where
+module _ (c : Config) (r : Extent) (s : ℕ) where
   -- what was counted, this call, and those after it
   more : (a : Counter → ℕ) (w : World) (v : View) (k : Call) (ks : List Call) → run (perform w k) ks .book .counts ≡ countsBy (λ (i : Counter). upTo ((a i + hit i (placeIn c v k)) + timesIn c (feedView c v k) ks i))
       → run w (k ∷ ks) .book .counts ≡ countsBy (λ (i : Counter). upTo (a i + timesIn c v (k ∷ ks) i))
@@ -292,8 +279,8 @@ module _ (c : Config) (r s : ℕ) where
       (step-counts c r s w v f n (l .0) h m ∙ counted-up a (placeIn c v (step n h m)) (w .book .counts) e))
   run-counts a w v (read q ∷ ks) f l e = past-read a w v q ks (run-counts a w v ks f l e)
 
-pub counts-are : (c : Config) (ws : List ℕ) (sg : List Segment) (ks : List Call) → Lendable (length ws) (length sg) ks
-    → run (freshWorld c ws sg) ks .book .counts ≡ countsBy (λ (i : Counter). upTo (timesIn c blank ks i))
-counts-are c ws sg ks l =
-    run-counts c (length ws) (length sg) (λ i. 0) (freshWorld c ws sg) blank ks (fresh-follows c ws sg) l refl
+pub counts-are : (c : Config) (mem : Memory) (sg : List Segment) (ks : List Call) → Lendable (extentOf mem) (length sg) ks
+    → run (freshWorld c mem sg) ks .book .counts ≡ countsBy (λ (i : Counter). upTo (timesIn c blank ks i))
+counts-are c mem sg ks l =
+    run-counts c (extentOf mem) (length sg) (λ i. 0) (freshWorld c mem sg) blank ks (fresh-follows c mem sg) l refl
     ∙ counts-same _ _ (λ i. let z : 0 + timesIn c blank ks i ≡ timesIn c blank ks i = omega arith in ap upTo z)

@@ -20,26 +20,27 @@ use Rattle.message.specs.Amounts.{differs, givenDiffers, absentOrDiffers}
 use Rattle.piece.specs.Bytes.{part, little, big, littleBytes, bigBytes}
 use Rattle.piece.specs.Piece.{readSnapshot, snapshotShaped, snapshotOf, bidsAt, asksAt, ordersFrom, orderAt, orderFrom, amountAt, wordAt, orderIdAt, productIdAt}
 use Rattle.piece.specs.Encode.{snapshotBytes}
-use Rattle.book.specs.Rows.{ceiling, rowsFrom, stored, sideOf}
+use Rattle.book.specs.Rows.{rowsFrom, stored, sideOf}
+use Rattle.book.specs.Memory.{Memory, memory, Extent, extentOf}
 use Rattle.book.specs.Broken.{rowBroken}
 use Rattle.reconstructor_counts.specs.Counts.{saturated}
 use Rattle.reconstructor_segments.specs.declared.Segment.{Segment}
 use Rattle.reconstructor_state.specs.Checks.{check, first}
-use Rattle.reconstructor_state.specs.State.{Lengths, limitedRules}
+use Rattle.reconstructor_state.specs.State.{ceiling, Lengths, limitedRules}
 use Rattle.reconstructor_checks.specs.Own.{broken, stateRefusal}
 use Rattle.reconstructor_plan.specs.Rules.{openRefusal, makerRefusal, eventRefusal, effect, counterOf, eventDeed}
 use Rattle.reconstructor.specs.Refusals.{admitRefusal, gateRefusal, turnRefusal}
-use Rattle.reconstructor.specs.Applied.{refusedReply, invalidatedReply, acceptedReply, accepted as acceptedCore, recorded, settled, gated, applied}
+use Rattle.reconstructor.specs.Applied.{refusedReply, invalidatedReply, acceptedReply, accepted as acceptedCore, decided, answered, appliedTo, applied}
 use Rattle.reconstructor_bootstrap.specs.Snapshot.{lineRefusal, snapshotRefusal, acceptRefusal, bootRefusal}
-use Rattle.reconstructor_bootstrap.specs.Bootstrap.{bootstrapped, closed}
+use Rattle.reconstructor_bootstrap.specs.Bootstrap.{bootstrappedTo, bootstrapped, closed}
 use Rattle.reconstructor_handshake.specs.declared.Handshake.{Handshake}
-use Rattle.reconstructor_handshake.specs.Step.{stepRefusal, settledStep, stepped}
-use Rattle.reconstructor_view.specs.View.{viewRefusal, readRefusal}
+use Rattle.reconstructor_handshake.specs.Step.{stepRefusal, unlessRefused, steppedTo, stepped}
+use Rattle.reconstructor_view.specs.ValueReads.{viewRefusal, readRefusal}
 use Rattle.reconstructor_reads.specs.declared.Shown.the-variants.{Entries}
 use Rattle.reconstructor_reads.specs.declared.LevelAnswer.the-variants as levels
-use Rattle.reconstructor_reads.specs.Reads.{shown, levelRead, levelQueue, staleRead, staleL2}
+use Rattle.reconstructor_reads.specs.LevelReads.{shown, levelRead, levelQueue, staleRead, staleL2}
 use Rattle.ledger.specs.Ledger.{Config, Call, bootstrap, apply, step, read, levelQueue as askQueue, fresh, settle, applyOutcome, stepSettle, stepOutcome, tally, feedView, feedFigure, feedAll}
-use Rattle.ledger.specs.World.{perform, run, lentRows, Lendable, freshWorld, volumeAt}
+use Rattle.ledger.specs.World.{perform, run, lentMemory, Lendable, freshWorld, volumeAt}
 use Rattle.ledger.specs.Kept.{keptAfter, kept}
 use Rattle.ledger.specs.Sum.{standingAt, valid, invalid, SumRule}
 use Rattle.ledger.proofs.Sum.{sum-rule}
@@ -52,8 +53,8 @@ product = record { high = 80; low = 0 }
 abbrev config : Config
 config = record { product = product; rules = limitedRules 3 3; number = 1 }
 
-abbrev words : List ℕ
-words = 7 ∷ 7 ∷ 7 ∷ 7 ∷ 7 ∷ 7 ∷ 7 ∷ 7 ∷ 7 ∷ 7 ∷ 7 ∷ 7 ∷ 7 ∷ 7 ∷ 7 ∷ 7 ∷ 7 ∷ 7 ∷ 7 ∷ 7 ∷ 7 ∷ 7 ∷ 7 ∷ 7 ∷ 7 ∷ 7 ∷ []
+abbrev words : Memory
+words = memory (7 ∷ 7 ∷ 7 ∷ 7 ∷ 7 ∷ 7 ∷ 7 ∷ 7 ∷ 7 ∷ 7 ∷ 7 ∷ 7 ∷ 7 ∷ 7 ∷ 7 ∷ 7 ∷ 7 ∷ 7 ∷ 7 ∷ 7 ∷ 7 ∷ 7 ∷ 7 ∷ 7 ∷ 7 ∷ 7 ∷ [])
 
 abbrev anyRecord : Segment
 anyRecord =
@@ -84,7 +85,7 @@ abbrev at : ℕ → L3Event → L3Message
 at seq e = record { «product_id» = product; sequence = seq; «time_us» = seq; event = e }
 
 abbrev lent : ℕ → ℕ → Lengths
-lent r s = record { rows = r; segments = s }
+lent r s = record { memory = record { rows = r }; segments = s }
 
 abbrev handshake : Handshake
 handshake = record { segment = record { number = 1; place = 0 }; ended = false; applied = 0 }
@@ -107,14 +108,14 @@ before =
     -- re-sent from before the snapshot: dropped
     step (lent 24 2) handshake (at 100 (Open (id 3) Buy (pos 10) (pos 5))) ∷
     step (lent 24 2) handshake opened ∷
-    read (askQueue 24 3 Buy (pos 10) 10) ∷
+    read (askQueue (lent 24 2 .memory) 3 Buy (pos 10) 10) ∷
     []
 
 abbrev after : List Call
 after =
     -- the same message again: 21
     step (lent 26 2) handshake opened ∷
-    read (askQueue 24 3 Buy (pos 10) 10) ∷
+    read (askQueue (lent 24 2 .memory) 3 Buy (pos 10) 10) ∷
     -- 6: no room for a record; 17
     bootstrap (lent 24 1) (snapshot 200 (order 1 10 4 ∷ []) []) ∷
     apply (lent 24 2) matched ∷
@@ -125,7 +126,7 @@ recovered = bootstrap (lent 24 2) (snapshot 200 (order 1 10 4 ∷ []) []) ∷ ap
 
 pub record Worked : Type 0 where
   -- the premise is met
-  lendable : Lendable (length words) (length records) (before ++ (after ++ recovered))
+  lendable : Lendable (extentOf words) (length records) (before ++ (after ++ recovered))
   -- A's 2 and C's 5
   before-volume : volumeAt Buy 10 (run (freshWorld config words records) before) ≡ 7
   before-standing : standingAt (run (freshWorld config words records) before) ≡ valid
@@ -136,17 +137,17 @@ pub record Worked : Type 0 where
   end-volume : volumeAt Buy 10 (run (freshWorld config words records) (before ++ (after ++ recovered))) ≡ 3
   end-figure : feedAll config fresh (before ++ (after ++ recovered)) .figure Buy 10 ≡ 3
   -- a read of the one and a stale read of the other say so; another read of it is turned away
-  before-read : levelQueue ceiling (run (freshWorld config words records) before .book) (lentRows (lent 24 2) (run (freshWorld config words records) before)) (5 ∷ 5 ∷ 5 ∷ []) Buy (pos 10) (replicate 10 4) .answer ≡ levels.Shown (Entries 2)
-  after-stale : staleL2 ceiling (run (freshWorld config words records) (before ++ after) .book) (lentRows (lent 24 2) (run (freshWorld config words records) (before ++ after))) (5 ∷ 5 ∷ 5 ∷ []) Buy (replicate 3 4) .out ≡ 10 ∷ 7 ∷ 4 ∷ []
+  before-read : levelQueue ceiling (run (freshWorld config words records) before .book) (lentMemory (lent 24 2) (run (freshWorld config words records) before)) (5 ∷ 5 ∷ 5 ∷ []) Buy (pos 10) (replicate 10 4) .answer ≡ levels.Shown (Entries 2)
+  after-stale : staleL2 ceiling (run (freshWorld config words records) (before ++ after) .book) (lentMemory (lent 24 2) (run (freshWorld config words records) (before ++ after))) (5 ∷ 5 ∷ 5 ∷ []) Buy (replicate 3 4) .out ≡ 10 ∷ 7 ∷ 4 ∷ []
   -- what counts
   counts : kept config (before ++ (after ++ recovered)) ≡ recovered
   rule : SumRule config words records (before ++ (after ++ recovered))
 
-fits : Lendable 26 2 (before ++ (after ++ recovered))
+fits : Lendable (extentOf words) 2 (before ++ (after ++ recovered))
 fits = ((omega arith, omega arith), ((omega arith, omega arith), ((omega arith, omega arith), ((omega arith, omega arith), ((omega arith, omega arith), ((omega arith, omega arith), ((omega arith, omega arith), ((omega arith, omega arith), ((omega arith, omega arith), ((omega arith, omega arith), tt))))))))))
 
 pub worked : Worked
-unfolding perform applied stepped settledStep stepRefusal bootstrapped gated settled recorded acceptedCore acceptedReply invalidatedReply refusedReply turnRefusal gateRefusal admitRefusal stateRefusal broken eventDeed counterOf effect eventRefusal makerRefusal openRefusal check first saturated rowsFrom stored sideOf rowBroken inRange optionalInRange eventInRange differs givenDiffers absentOrDiffers sameId sameProduct closed bootRefusal acceptRefusal snapshotRefusal lineRefusal readSnapshot snapshotShaped snapshotOf bidsAt asksAt ordersFrom orderAt orderFrom amountAt wordAt orderIdAt productIdAt part little big littleBytes bigBytes orderInRange ordersInRange viewRefusal readRefusal levelRead staleRead shown feedView feedFigure tally applyOutcome settle stepOutcome stepSettle keptAfter
+unfolding perform applied appliedTo stepped steppedTo unlessRefused stepRefusal bootstrapped bootstrappedTo answered decided acceptedCore acceptedReply invalidatedReply refusedReply turnRefusal gateRefusal admitRefusal stateRefusal broken eventDeed counterOf effect eventRefusal makerRefusal openRefusal check first saturated rowsFrom stored sideOf rowBroken inRange optionalInRange eventInRange differs givenDiffers absentOrDiffers sameId sameProduct closed bootRefusal acceptRefusal snapshotRefusal lineRefusal readSnapshot snapshotShaped snapshotOf bidsAt asksAt ordersFrom orderAt orderFrom amountAt wordAt orderIdAt productIdAt part little big littleBytes bigBytes orderInRange ordersInRange viewRefusal readRefusal levelRead staleRead shown feedView feedFigure tally applyOutcome settle stepOutcome stepSettle keptAfter
 worked =
     record {
       lendable = fits;

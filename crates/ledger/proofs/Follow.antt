@@ -14,7 +14,8 @@ use Rattle.laws.proofs.Bools.{or-no, or-both}
 use Rattle.message.specs.declared.L3Message.{L3Message}
 use Rattle.piece.specs.Piece.{readSnapshot}
 use Rattle.book.specs.Line.{Entry}
-use Rattle.book.specs.Rows.{ceiling, rowsFrom, rowsOf, lineOf}
+use Rattle.book.specs.Rows.{rowsFrom, rowsOf, lineOf}
+use Rattle.book.specs.Memory.{Memory, Extent, extentOf, ordersOf, behind}
 use Rattle.book.proofs.Kept.{empty-formed, not-broken}
 use Rattle.reconstructor_answers.specs.declared.StateError.{StateError}
 use Rattle.reconstructor_answers.specs.declared.StateError.the-variants.{LimitAboveCeiling, LentTooShort, MalformedBook}
@@ -24,10 +25,10 @@ use Rattle.reconstructor_segments.specs.Segments.{lastSegment}
 use Rattle.reconstructor_segments.proofs.Last.{last-front}
 use Rattle.reconstructor_state.specs.declared.VenueRules.{VenueRules}
 use Rattle.reconstructor_state.specs.declared.BookReconstructor.{BookReconstructor}
-use Rattle.reconstructor_state.specs.State.{View, Lengths, lengthsOf, newBook}
+use Rattle.reconstructor_state.specs.State.{ceiling, View, Lengths, lengthsOf, newBook}
 use Rattle.reconstructor_state.proofs.Checks.{fails, goes-on, first-fails}
-use Rattle.reconstructor_checks.specs.Own.{Usable, broken, overCeiling, tooShort, stateRefusal, bookRefusal}
-use Rattle.reconstructor_checks.proofs.Own.{sound, usable-none}
+use Rattle.reconstructor_checks.specs.Own.{Usable, broken, overCeiling, memoryShort, tooShort, stateRefusal, bookRefusal}
+use Rattle.reconstructor_checks.proofs.Own.{sound, memory-room, usable-none}
 use Rattle.reconstructor.specs.Refusals.{gateRefusal}
 use Rattle.reconstructor.specs.Applied.{applied}
 use Rattle.reconstructor.proofs.Laws.{gate-stops}
@@ -40,7 +41,7 @@ use Rattle.reconstructor_handshake.specs.declared.Handshake.{Handshake}
 use Rattle.reconstructor_handshake.specs.Step.{stepRefusal, stepped}
 use Rattle.reconstructor_handshake.proofs.Step.{unusable-step}
 use Rattle.ledger.specs.Ledger.{Config, Call, bootstrap, apply, step, read, blank, refused, settle, applyOutcome, stepSettle, stepOutcome, bootOutcome, viewBy, viewBoot, feedView}
-use Rattle.ledger.specs.World.{World, lentRows, lentSegments, back, perform, run, Fits, Lendable, freshWorld, lineAt}
+use Rattle.ledger.specs.World.{World, lentMemory, lentSegments, back, perform, run, Fits, Lendable, freshWorld, lineAt}
 use Rattle.ledger.proofs.Stands.{seen, Starts, Stands, rows-front, apply-stands, step-stands, boot-stands}
 use Rattle.ledger.proofs.Left.{Left, apply-left, step-left, boot-left}
 
@@ -49,9 +50,9 @@ abbrev pub viewAll : Config → View → List Call → View
 viewAll c v [] = v
 viewAll c v (k ∷ ks) = viewAll c (feedView c v k) ks
 
-pub record Follows (c : Config) (r s : ℕ) (w : World) (v : View) : Type 0 where
-  pub stands : Stands c (w .book) (w .rows) (w .segments) v
-  pub wide : length (w .rows) ≡ r
+pub record Follows (c : Config) (r : Extent) (s : ℕ) (w : World) (v : View) : Type 0 where
+  pub stands : Stands c (w .book) (w .memory) (w .segments) v
+  pub wide : extentOf (w .memory) ≡ r
   pub long : length (w .segments) ≡ s
 
 some-same : (a b : StateError) → _≡_ {A = Option StateError} (some a) (some b) → a ≡ b
@@ -84,9 +85,9 @@ pub early-boot : (c : Config) (n : Lengths) (w : View) (bytes : List ℕ) → (o
 unfolding bootRefusal
 early-boot c n w bytes h = let e = early (c .rules) n false (w .segments) h in rw (first-fails _ _ _ _ (e .1))
 
-pub early-refusal : (b : BookReconstructor) (ws : List ℕ) (sg : List Segment) (bytes : List ℕ) (e : StateError) → bookRefusal ceiling b ws (length sg) ≡ some e → refusalOf ceiling b ws sg bytes ≡ some (snapshots.Unusable e)
+pub early-refusal : (b : BookReconstructor) (mem : Memory) (sg : List Segment) (bytes : List ℕ) (e : StateError) → bookRefusal ceiling b mem (length sg) ≡ some e → refusalOf ceiling b mem sg bytes ≡ some (snapshots.Unusable e)
 unfolding bootRefusal
-early-refusal b ws sg bytes e h = first-fails _ _ _ _ h
+early-refusal b mem sg bytes e h = first-fails _ _ _ _ h
 
 -- ---- a call and the memory beyond what it is lent
 
@@ -94,76 +95,80 @@ back-length : {A : Type 0} (k : ℕ) (l a : List A) → length a ≡ length (tak
 back-length k l a h =
     length-append a (drop k l) ∙ ap (λ (x : ℕ). x + length (drop k l)) h ∙ sym (length-append (take k l) (drop k l)) ∙ ap length (take-append-drop k l)
 
-pub broken-rows : (b : BookReconstructor) (ws vs : List ℕ) → rowsOf ws (b .rows) ≡ rowsOf vs (b .rows) → broken b ws ≡ broken b vs
+pub broken-rows : (b : BookReconstructor) (mem mem′ : Memory) → ordersOf mem (b .rows) ≡ ordersOf mem′ (b .rows) → broken b mem ≡ broken b mem′
 unfolding broken
-broken-rows b ws vs e = rw e
+broken-rows b mem mem′ e = rw e
 
-module _ (c : Config) (r s : ℕ) (w : World) (v : View) (f : Follows c r s w v) (n : Lengths) (fits : Fits r s n) where
-  abbrev ws : List ℕ
-  ws = lentRows n w
+module _ (c : Config) (r : Extent) (s : ℕ) (w : World) (v : View) (f : Follows c r s w v) (n : Lengths) (fits : Fits r s n) where
+  abbrev mem : Memory
+  mem = lentMemory n w
 
   abbrev sg : List Segment
   sg = lentSegments n w
 
-  lent-rows : length ws ≡ n .rows
-  lent-rows = length-take-le (n .rows) (w .rows) (omega (arith, fits .0, f .wide))
+  lent-memory : extentOf mem ≡ n .memory
+  lent-memory =
+      let e : length (w .memory .rows) ≡ r .rows = ap (λ (x : Extent). x .rows) (f .wide) in
+      ap (λ (k : ℕ). record { rows = k }) (length-take-le (n .memory .rows) (w .memory .rows) (omega (arith, fits .0, e)))
 
   lent-segments : length sg ≡ n .segments
   lent-segments = length-take-le (n .segments) (w .segments) (omega (arith, fits .1, f .long))
 
-  pub lengths-are : lengthsOf ws sg ≡ n
-  lengths-are = ap₂ (λ (x y : ℕ). record { rows = x; segments = y }) lent-rows lent-segments
+  pub lengths-are : lengthsOf mem sg ≡ n
+  lengths-are = ap₂ (λ (x : Extent) (y : ℕ). record { memory = x; segments = y }) lent-memory lent-segments
 
   -- what a call left, with the memory beyond
-  kept-whole : (b : BookReconstructor) (vs : List ℕ) (tg : List Segment) (x : View) → Stands c b vs tg x → Left ws sg b vs tg → Follows c r s (back n w b vs tg) x
-  kept-whole b vs tg x t l =
+  kept-whole : (b : BookReconstructor) (after : Memory) (tg : List Segment) (x : View) → Stands c b after tg x → Left mem sg b after tg → Follows c r s (back n w b after tg) x
+  kept-whole b after tg x t l =
+      let e : ordersOf (behind (n .memory) (w .memory) after) (b .rows) ≡ ordersOf after (b .rows) = rows-front (after .rows) (drop (n .memory .rows) (w .memory .rows)) (b .rows) (l .room) in
       record {
         stands =
             record {
               config = t .config;
-              view = ap (λ (y : List Entry). record { status = b .status; startSeq = x .startSeq; segments = b .segments; line = y }) (ap lineOf (rows-front vs (drop (n .rows) (w .rows)) (b .rows) (l .room))) ∙ t .view;
+              view = ap (λ (y : List Entry). record { status = b .status; startSeq = x .startSeq; segments = b .segments; line = y }) (ap lineOf e) ∙ t .view;
               start = λ z. ap (λ (g : Segment). g .«start_seq») (last-front tg (drop (n .segments) (w .segments)) (b .segments) (l .listed)) ∙ t .start z;
-              sound = broken-rows b (vs ++ drop (n .rows) (w .rows)) vs (rows-front vs (drop (n .rows) (w .rows)) (b .rows) (l .room)) ∙ t .sound;
+              sound = broken-rows b (behind (n .memory) (w .memory) after) after e ∙ t .sound;
             };
-        wide = back-length (n .rows) (w .rows) vs (l .rows) ∙ f .wide;
+        wide = ap (λ (k : ℕ). record { rows = k }) (back-length (n .memory .rows) (w .memory .rows) (after .rows) (l .rows)) ∙ f .wide;
         long = back-length (n .segments) (w .segments) tg (l .segments) ∙ f .long;
       }
 
   -- nothing moved
-  same-whole : Follows c r s (back n w (w .book) ws sg) v
-  same-whole = rw (take-append-drop (n .rows) (w .rows), take-append-drop (n .segments) (w .segments)) f
+  same-whole : Follows c r s (back n w (w .book) mem sg) v
+  same-whole = rw (take-append-drop (n .memory .rows) (w .memory .rows), take-append-drop (n .segments) (w .segments)) f
 
   module _ (h : (overCeiling ceiling (c .rules) || tooShort (c .rules) n (v .segments)) ≡ false) where
-    same-rows : rowsOf (w .rows) (w .book .rows) ≡ rowsOf ws (w .book .rows)
+    same-rows : ordersOf (w .memory) (w .book .rows) ≡ ordersOf mem (w .book .rows)
     same-rows =
         let k = or-no (overCeiling ceiling (c .rules)) (tooShort (c .rules) n (v .segments)) h in
-        let d = or-no (ltb (n .rows) (8 * c .rules .«max_orders»)) (ltb (n .segments) (v .segments)) (k .1) in
-        let m : w .book .rows ≤ w .book .rules .«max_orders» = sound (w .book) (w .rows) (f .stands .sound) .few in
+        let d = or-no (memoryShort (c .rules) (n .memory)) (ltb (n .segments) (v .segments)) (k .1) in
+        let m : w .book .rows ≤ w .book .rules .«max_orders» = sound (w .book) (w .memory) (f .stands .sound) .few in
         let e : w .book .rules .«max_orders» ≡ c .rules .«max_orders» = ap (λ (x : Config). x .rules .«max_orders») (f .stands .config) in
-        let z : rowsOf (ws ++ drop (n .rows) (w .rows)) (w .book .rows) ≡ rowsOf ws (w .book .rows) =
-        rows-front ws (drop (n .rows) (w .rows)) (w .book .rows) (omega (arith, m, e, lent-rows, ltb-false (n .rows) (8 * c .rules .«max_orders») (d .0))) in
-        ap (λ (x : List ℕ). rowsOf x (w .book .rows)) (sym (take-append-drop (n .rows) (w .rows))) ∙ z
+        let l = memory-room (c .rules) mem (ap (memoryShort (c .rules)) lent-memory ∙ d .0) in
+        let z : rowsOf (mem .rows ++ drop (n .memory .rows) (w .memory .rows)) (w .book .rows) ≡ rowsOf (mem .rows) (w .book .rows) =
+        rows-front (mem .rows) (drop (n .memory .rows) (w .memory .rows)) (w .book .rows) (omega (arith, m, e, l)) in
+        ap (λ (x : List ℕ). rowsOf x (w .book .rows)) (sym (take-append-drop (n .memory .rows) (w .memory .rows))) ∙ z
 
-    pub same-view : seen (v .startSeq) (w .book) ws ≡ v
+    pub same-view : seen (v .startSeq) (w .book) mem ≡ v
     same-view =
         ap (λ (y : List Entry). record { status = w .book .status; startSeq = v .startSeq; segments = w .book .segments; line = y }) (ap lineOf (sym same-rows)) ∙ f .stands .view
 
     few-segments : w .book .segments ≤ n .segments
     few-segments =
         let k = or-no (overCeiling ceiling (c .rules)) (tooShort (c .rules) n (v .segments)) h in
-        let d = or-no (ltb (n .rows) (8 * c .rules .«max_orders»)) (ltb (n .segments) (v .segments)) (k .1) in
+        let d = or-no (memoryShort (c .rules) (n .memory)) (ltb (n .segments) (v .segments)) (k .1) in
         let e : w .book .segments ≡ v .segments = ap (λ (x : View). x .segments) (f .stands .view) in
         omega (arith, e, ltb-false (n .segments) (v .segments) (d .1))
 
-    pub usable-now : Usable ceiling (w .book) ws (length sg)
+    pub usable-now : Usable ceiling (w .book) mem (length sg)
     usable-now =
         let k = or-no (overCeiling ceiling (c .rules)) (tooShort (c .rules) n (v .segments)) h in
         let e : w .book .rules ≡ c .rules = ap (λ (x : Config). x .rules) (f .stands .config) in
         let g : w .book .segments ≡ v .segments = ap (λ (x : View). x .segments) (f .stands .view) in
         record {
           within = ap (overCeiling ceiling) e ∙ k .0;
-          lent = ap₂ _||_ (ap₂ ltb lent-rows (ap (λ (x : VenueRules). 8 * x .«max_orders») e)) (ap₂ ltb lent-segments g) ∙ k .1;
-          sound = broken-rows (w .book) ws (w .rows) (sym same-rows) ∙ f .stands .sound;
+          lent = ap₂ _||_ (ap₂ memoryShort e lent-memory) (ap₂ ltb lent-segments g) ∙ k .1;
+          sound = broken-rows (w .book) mem (w .memory) (sym same-rows) ∙ f .stands .sound;
         }
 
     pub starts-now : Starts (v .startSeq) (w .book) sg
@@ -174,51 +179,65 @@ module _ (c : Config) (r s : ℕ) (w : World) (v : View) (f : Follows c r s w v)
 
   -- lent too little: 1 or 2, and nothing moves
   pub early-own : (overCeiling ceiling (c .rules) || tooShort (c .rules) n (v .segments)) ≡ true
-      → (e : StateError) × (bookRefusal ceiling (w .book) ws (length sg) ≡ some e) × (e ≡ MalformedBook → ⊥)
+      → (e : StateError) × (bookRefusal ceiling (w .book) mem (length sg) ≡ some e) × (e ≡ MalformedBook → ⊥)
   early-own h =
       let e : w .book .rules ≡ c .rules = ap (λ (x : Config). x .rules) (f .stands .config) in
       let g : w .book .segments ≡ v .segments = ap (λ (x : View). x .segments) (f .stands .view) in
-      early (w .book .rules) (lengthsOf ws sg) (broken (w .book) ws) (w .book .segments)
-      (ap₂ _||_ (ap (overCeiling ceiling) e) (ap₂ _||_ (ap₂ ltb lent-rows (ap (λ (x : VenueRules). 8 * x .«max_orders») e)) (ap₂ ltb lent-segments g)) ∙ h)
+      early (w .book .rules) (lengthsOf mem sg) (broken (w .book) mem) (w .book .segments)
+      (ap₂ _||_ (ap (overCeiling ceiling) e) (ap₂ _||_ (ap₂ memoryShort e lent-memory) (ap₂ ltb lent-segments g)) ∙ h)
 
   pub early-applied : (overCeiling ceiling (c .rules) || tooShort (c .rules) n (v .segments)) ≡ true → (m : L3Message)
-      → (applied ceiling (w .book) ws sg m .book ≡ w .book) × (applied ceiling (w .book) ws sg m .rows ≡ ws) × (applied ceiling (w .book) ws sg m .segments ≡ sg)
+      → (applied ceiling (w .book) mem sg m .book ≡ w .book) × (applied ceiling (w .book) mem sg m .memory ≡ mem) × (applied ceiling (w .book) mem sg m .segments ≡ sg)
   early-applied h m =
       let e = early-own h in
-      let l = refusal-leaves ceiling (w .book) ws sg m (answers.Unusable (e .0)) (gate-stops ceiling (w .book) ws sg m (e .0) (e .1)) in
+      let l = refusal-leaves ceiling (w .book) mem sg m (answers.Unusable (e .0)) (gate-stops ceiling (w .book) mem (length sg) (lastSegment sg (w .book .segments)) m (e .0) (e .1)) in
       (l .1, l .2, l .3)
 
   -- "3 never arises here"
-  pub never-three : bookRefusal ceiling (w .book) ws (length sg) ≡ some MalformedBook → ⊥
+  pub never-three : bookRefusal ceiling (w .book) mem (length sg) ≡ some MalformedBook → ⊥
   never-three x = go (overCeiling ceiling (c .rules) || tooShort (c .rules) n (v .segments)) refl
     where
       go : (b : Bool) → (overCeiling ceiling (c .rules) || tooShort (c .rules) n (v .segments)) ≡ b → ⊥
       go true h = let e = early-own h in e .2 (some-same (e .0) MalformedBook (sym (e .1) ∙ x))
-      go false h = some-none MalformedBook (sym x ∙ usable-none ceiling (w .book) ws (length sg) (usable-now h))
+      go false h = some-none MalformedBook (sym x ∙ usable-none ceiling (w .book) mem (length sg) (usable-now h))
 
   pub apply-follows : (m : L3Message) → Follows c r s (perform w (apply n m)) (feedView c v (apply n m))
   unfolding perform feedView
   apply-follows m = go (overCeiling ceiling (c .rules) || tooShort (c .rules) n (v .segments)) refl
     where
       go : (b : Bool) → (overCeiling ceiling (c .rules) || tooShort (c .rules) n (v .segments)) ≡ b
-          → Follows c r s (back n w (applied ceiling (w .book) ws sg m .book) (applied ceiling (w .book) ws sg m .rows) (applied ceiling (w .book) ws sg m .segments)) (viewBy m (applyOutcome c n false v m) v)
+          → Follows c r s (back n w (applied ceiling (w .book) mem sg m .book) (applied ceiling (w .book) mem sg m .memory) (applied ceiling (w .book) mem sg m .segments)) (viewBy (c .rules) m (applyOutcome c n false v m) v)
       go true h = rw (early-apply c n v m h, early-applied h m .0, early-applied h m .1, early-applied h m .2) same-whole
       go false h =
-          let t = rw (f .stands .config, lengths-are, same-view h) at (apply-stands (w .book) ws sg (v .startSeq) (usable-now h) (starts-now h) m) in
-          kept-whole _ _ _ _ t (apply-left (w .book) ws sg (usable-now h) m)
+          let t₁ =
+          subst
+          (λ (x : Config).
+          Stands x (applied ceiling (w .book) mem sg m .book) (applied ceiling (w .book) mem sg m .memory) (applied ceiling (w .book) mem sg m .segments)
+          (viewBy (x .rules) m (applyOutcome x (lengthsOf mem sg) false (seen (v .startSeq) (w .book) mem) m) (seen (v .startSeq) (w .book) mem)))
+          (f .stands .config)
+          (apply-stands (w .book) mem sg (v .startSeq) (usable-now h) (starts-now h) m) in
+          let t = rw (lengths-are, same-view h) at t₁ in
+          kept-whole _ _ _ _ t (apply-left (w .book) mem sg (usable-now h) m)
 
   pub step-follows : (h : Handshake) (m : L3Message) → Follows c r s (perform w (step n h m)) (feedView c v (step n h m))
   unfolding perform feedView
   step-follows h m = go (overCeiling ceiling (c .rules) || tooShort (c .rules) n (v .segments)) refl
     where
       go : (b : Bool) → (overCeiling ceiling (c .rules) || tooShort (c .rules) n (v .segments)) ≡ b
-          → Follows c r s (back n w (stepped ceiling h (w .book) ws sg m .book) (stepped ceiling h (w .book) ws sg m .rows) (stepped ceiling h (w .book) ws sg m .segments)) (viewBy m (stepOutcome c n false v h m) v)
+          → Follows c r s (back n w (stepped ceiling h (w .book) mem sg m .book) (stepped ceiling h (w .book) mem sg m .memory) (stepped ceiling h (w .book) mem sg m .segments)) (viewBy (c .rules) m (stepOutcome c n false v h m) v)
       go true q =
           let e = early-own q in
-          rw (early-step c n v h m q, unusable-step h (w .book) ws sg m (e .0) (e .1)) same-whole
+          rw (early-step c n v h m q, unusable-step ceiling h (w .book) mem sg m (e .0) (e .1)) same-whole
       go false q =
-          let t = rw (f .stands .config, lengths-are, same-view q) at (step-stands (w .book) ws sg (v .startSeq) (usable-now q) (starts-now q) h m) in
-          kept-whole _ _ _ _ t (step-left (w .book) ws sg (usable-now q) m h)
+          let t₁ =
+          subst
+          (λ (x : Config).
+          Stands x (stepped ceiling h (w .book) mem sg m .book) (stepped ceiling h (w .book) mem sg m .memory) (stepped ceiling h (w .book) mem sg m .segments)
+          (viewBy (x .rules) m (stepOutcome x (lengthsOf mem sg) false (seen (v .startSeq) (w .book) mem) h m) (seen (v .startSeq) (w .book) mem)))
+          (f .stands .config)
+          (step-stands (w .book) mem sg (v .startSeq) (usable-now q) (starts-now q) h m) in
+          let t = rw (lengths-are, same-view q) at t₁ in
+          kept-whole _ _ _ _ t (step-left (w .book) mem sg (usable-now q) m h)
 
   pub boot-follows : (bytes : List ℕ) → Follows c r s (perform w (bootstrap n bytes)) (feedView c v (bootstrap n bytes))
   unfolding perform feedView
@@ -226,25 +245,25 @@ module _ (c : Config) (r s : ℕ) (w : World) (v : View) (f : Follows c r s w v)
     where
       go : (b : Bool) → (overCeiling ceiling (c .rules) || tooShort (c .rules) n (v .segments)) ≡ b
           → Follows c r s
-          (back n w (bootstrapped ceiling (w .book) ws sg bytes .book) (bootstrapped ceiling (w .book) ws sg bytes .rows) (bootstrapped ceiling (w .book) ws sg bytes .segments))
+          (back n w (bootstrapped ceiling (w .book) mem sg bytes .book) (bootstrapped ceiling (w .book) mem sg bytes .memory) (bootstrapped ceiling (w .book) mem sg bytes .segments))
           (viewBoot (bootOutcome c n v bytes) (readSnapshot bytes) bytes v)
       go true q =
           let e = early-own q in
-          rw (early-boot c n v bytes q, refused-is ceiling (w .book) ws sg bytes (snapshots.Unusable (e .0)) (early-refusal (w .book) ws sg bytes (e .0) (e .1))) same-whole
+          rw (early-boot c n v bytes q, refused-is ceiling (w .book) mem sg bytes (snapshots.Unusable (e .0)) (early-refusal (w .book) mem sg bytes (e .0) (e .1))) same-whole
       go false q =
           let t₁ =
           subst
           (λ (x : Config).
-          Stands x (bootstrapped ceiling (w .book) ws sg bytes .book) (bootstrapped ceiling (w .book) ws sg bytes .rows) (bootstrapped ceiling (w .book) ws sg bytes .segments)
-          (viewBoot (bootOutcome x (lengthsOf ws sg) (seen (v .startSeq) (w .book) ws) bytes) (readSnapshot bytes) bytes (seen (v .startSeq) (w .book) ws)))
+          Stands x (bootstrapped ceiling (w .book) mem sg bytes .book) (bootstrapped ceiling (w .book) mem sg bytes .memory) (bootstrapped ceiling (w .book) mem sg bytes .segments)
+          (viewBoot (bootOutcome x (lengthsOf mem sg) (seen (v .startSeq) (w .book) mem) bytes) (readSnapshot bytes) bytes (seen (v .startSeq) (w .book) mem)))
           (f .stands .config)
-          (boot-stands (w .book) ws sg (v .startSeq) (usable-now q) (starts-now q) bytes) in
+          (boot-stands (w .book) mem sg (v .startSeq) (usable-now q) (starts-now q) bytes) in
           let t = rw (lengths-are, same-view q) at t₁ in
-          kept-whole _ _ _ _ t (boot-left (w .book) ws sg (usable-now q) bytes)
+          kept-whole _ _ _ _ t (boot-left (w .book) mem sg (usable-now q) bytes)
 
 -- ---- any list of calls
 
-module _ (c : Config) (r s : ℕ) where
+module _ (c : Config) (r : Extent) (s : ℕ) where
   pub follow-all : (w : World) (v : View) (ks : List Call) → Follows c r s w v → Lendable r s ks → Follows c r s (run w ks) (viewAll c v ks)
   unfolding perform feedView
   follow-all w v [] f l = f
@@ -253,19 +272,19 @@ module _ (c : Config) (r s : ℕ) where
   follow-all w v (step n h m ∷ ks) f l = follow-all (perform w (step n h m)) (feedView c v (step n h m)) ks (step-follows c r s w v f n (l .0) h m) (l .1)
   follow-all w v (read q ∷ ks) f l = follow-all w v ks f l
 
-pub fresh-follows : (c : Config) (ws : List ℕ) (sg : List Segment) → Follows c (length ws) (length sg) (freshWorld c ws sg) blank
+pub fresh-follows : (c : Config) (mem : Memory) (sg : List Segment) → Follows c (extentOf mem) (length sg) (freshWorld c mem sg) blank
 unfolding rowsFrom broken
-fresh-follows c ws sg =
+fresh-follows c mem sg =
     record {
       stands = record { config = refl; view = refl; start = λ z. absurd (omega (arith, z)); sound = whole };
       wide = refl;
       long = refl;
     }
   where
-    whole : broken (newBook (c .product) (c .rules) (c .number)) ws ≡ false
+    whole : broken (newBook (c .product) (c .rules) (c .number)) mem ≡ false
     whole =
         or-both _ _ (le-ltb (c .rules .«max_orders») 0 (omega arith))
         (or-both _ _ (not-broken (c .rules .«max_orders») (c .rules .«max_levels») [] (empty-formed (c .rules .«max_orders») (c .rules .«max_levels»))) refl)
 
-pub line-is : (c : Config) (ws : List ℕ) (sg : List Segment) (ks : List Call) → Lendable (length ws) (length sg) ks → lineAt (run (freshWorld c ws sg) ks) ≡ viewAll c blank ks .line
-line-is c ws sg ks l = ap (λ (x : View). x .line) (follow-all c (length ws) (length sg) (freshWorld c ws sg) blank ks (fresh-follows c ws sg) l .stands .view)
+pub line-is : (c : Config) (mem : Memory) (sg : List Segment) (ks : List Call) → Lendable (extentOf mem) (length sg) ks → lineAt (run (freshWorld c mem sg) ks) ≡ viewAll c blank ks .line
+line-is c mem sg ks l = ap (λ (x : View). x .line) (follow-all c (extentOf mem) (length sg) (freshWorld c mem sg) blank ks (fresh-follows c mem sg) l .stands .view)

@@ -16,13 +16,13 @@ use Rattle.piece.specs.declared.ReadSnapshot.{ReadSnapshot}
 use Rattle.piece.specs.declared.ReadSnapshot.the-variants as pieces
 use Rattle.piece.specs.Piece.{readSnapshot}
 use Rattle.book.specs.Line.{Entry}
-use Rattle.book.specs.Rows.{ceiling}
+use Rattle.book.specs.Memory.{lineBy}
 use Rattle.reconstructor_state.specs.declared.VenueRules.{VenueRules}
 use Rattle.reconstructor_state.specs.declared.Status.{Status}
-use Rattle.reconstructor_state.specs.State.{View, Lengths, lastOf}
+use Rattle.reconstructor_state.specs.State.{ceiling, View, Lengths, lastOf}
 use Rattle.reconstructor_state.proofs.Checks.{passed, goes-on, first-passed, first-on}
-use Rattle.reconstructor_checks.specs.Own.{stateRefusal}
-use Rattle.reconstructor_plan.specs.Rules.{effect, lineBy}
+use Rattle.reconstructor_checks.specs.Own.{memoryShort, stateRefusal}
+use Rattle.reconstructor_plan.specs.Rules.{effect}
 use Rattle.reconstructor.specs.Refusals.{statusRefusal, admitRefusal, gateRefusal, turnRefusal}
 use Rattle.reconstructor_bootstrap.specs.declared.SnapshotAnswer.{SnapshotAnswer}
 use Rattle.reconstructor_bootstrap.specs.Snapshot.{acceptRefusal, pieceRefusal, bootRefusal}
@@ -49,7 +49,7 @@ unfolding stateRefusal
 state-again r n s t h q =
     let q₁ = passed _ _ _ q in
     let q₂ = passed _ _ _ (q₁ .1) in
-    let d = or-no (ltb (n .rows) (8 * r .«max_orders»)) (ltb (n .segments) s) (q₂ .0) in
+    let d = or-no (memoryShort r (n .memory)) (ltb (n .segments) s) (q₂ .0) in
     goes-on _ _ _ _ (q₁ .0)
     (goes-on _ _ _ _ (or-both _ _ (d .0) (le-ltb (n .segments) t (omega (arith, h, ltb-false (n .segments) s (d .1)))))
     (goes-on _ _ _ _ refl refl))
@@ -58,7 +58,7 @@ state-again r n s t h q =
 listed-most : (r : VenueRules) (n : Lengths) (s : ℕ) → stateRefusal ceiling r n false s ≡ none → s ≤ n .segments
 unfolding stateRefusal
 listed-most r n s q =
-    let d = or-no (ltb (n .rows) (8 * r .«max_orders»)) (ltb (n .segments) s) (passed _ _ _ (passed _ _ _ q .1) .0) in
+    let d = or-no (memoryShort r (n .memory)) (ltb (n .segments) s) (passed _ _ _ (passed _ _ _ q .1) .0) in
     ltb-false (n .segments) s (d .1)
 
 outcome : (c : Config) (n : Lengths) (w : View) (m : L3Message) → gateRefusal ceiling (c .product) (c .rules) n false w m ≡ none
@@ -85,14 +85,14 @@ module _ (c : Config) (n : Lengths) (v w : View) (r : Repeats v w) (m : L3Messag
       let s = admit-status (c .product) (v .status) m (q .1) in
       (s, first-on _ _ _ _ (state-again (c .rules) n (v .segments) (w .segments) (r .fewer) (q .0)) (admit-again (c .product) (v .status) (w .status) m (r .up s) (q .1)))
 
-  apply-again : applyOutcome c n false v m ≡ accepted → Repeats (viewBy m accepted v) (feedView c w (apply n m))
+  apply-again : applyOutcome c n false v m ≡ accepted → Repeats (viewBy (c .rules) m accepted v) (feedView c w (apply n m))
   unfolding feedView
   apply-again h =
       let q = in-turn c n false v m h in
       let g = gate-again (q .0) in
       let t : turnRefusal (c .rules) (w .line) (lastOf (w .status)) m ≡ none = rw (r .line, r .last) (q .1) in
       let o : applyOutcome c n false w m ≡ accepted = outcome c n w m (g .1) t in
-      rw o (record { line = ap (λ (l : List Entry). lineBy (effect l (m .event)) l) (r .line); last = refl; fewer = r .fewer; up = λ _. refl })
+      rw o (record { line = ap (λ (l : List Entry). lineBy (effect (c .rules) l (m .sequence) (m .event)) l) (r .line); last = refl; fewer = r .fewer; up = λ _. refl })
 
 module _ (c : Config) (n : Lengths) (v : View) (bytes : List ℕ) where
   piece-again : (s : ReadSnapshot) → v .segments ≤ n .segments → pieceRefusal (c .product) (c .rules) n v s bytes ≡ none → pieceRefusal (c .product) (c .rules) n blank s bytes ≡ none
@@ -120,7 +120,7 @@ boot-numbered c k v n bytes = refl
 
 module _ (c : Config) (k : ℕ) where
   by-repeats : (n : Lengths) (m : L3Message) (v : View) (ks : List Call) (o : Outcome) → (o ≡ accepted → applyOutcome c n false v m ≡ accepted)
-      → Repeats v (viewAll (numbered c k) blank ks) → Repeats (viewBy m o v) (viewAll (numbered c k) blank (keptBy o ks (apply n m)))
+      → Repeats v (viewAll (numbered c k) blank ks) → Repeats (viewBy (c .rules) m o v) (viewAll (numbered c k) blank (keptBy o ks (apply n m)))
   by-repeats n m v ks refused h r = r
   by-repeats n m v ks (invalidates i) h r =
       record { line = r .line; last = r .last; fewer = r .fewer; up = λ z. let y : _≡_ {A = ℕ} 0 1 = cc in absurd (omega arith) }

@@ -12,12 +12,12 @@ use Rattle.message.specs.declared.L3Message.{L3Message}
 use Rattle.piece.specs.declared.ReadSnapshot.{ReadSnapshot}
 use Rattle.piece.specs.declared.ReadSnapshot.the-variants as pieces
 use Rattle.piece.specs.Piece.{readSnapshot}
-use Rattle.book.specs.Rows.{ceiling}
 use Rattle.reconstructor_answers.specs.declared.ApplyAnswer.{ApplyAnswer}
 use Rattle.reconstructor_answers.specs.declared.InvalidationKind.{InvalidationKind}
+use Rattle.reconstructor_state.specs.declared.VenueRules.{VenueRules}
 use Rattle.reconstructor_state.specs.declared.Status.{Status}
 use Rattle.reconstructor_state.specs.declared.Status.the-variants as statuses
-use Rattle.reconstructor_state.specs.State.{View, Lengths}
+use Rattle.reconstructor_state.specs.State.{ceiling, View, Lengths}
 use Rattle.reconstructor_state.proofs.Checks.{first-passed}
 use Rattle.reconstructor.specs.Refusals.{statusRefusal, gateRefusal}
 use Rattle.reconstructor_bootstrap.specs.declared.SnapshotAnswer.{SnapshotAnswer}
@@ -71,12 +71,12 @@ record Frozen (v v′ : View) (ks ks′ : List Call) : Type 0 where
   kept : ks′ ≡ ks
   line : v′ .line ≡ v .line
 
-by-frozen : (m : L3Message) (v : View) (ks : List Call) (k : Call) (o : Outcome) → (touches o → standingOf (v .status) ≡ valid)
-    → standingOf (viewBy m o v .status) ≡ invalid → Frozen v (viewBy m o v) ks (keptBy o ks k)
-by-frozen m v ks k refused h q = record { was = inl q; kept = refl; line = refl }
-by-frozen m v ks k (invalidates i) h q = record { was = inr (h tt); kept = refl; line = refl }
-by-frozen m v ks k dropped h q = record { was = inl q; kept = refl; line = refl }
-by-frozen m v ks k accepted h q = let z : _≡_ {A = ℕ} 0 1 = cc in absurd (omega arith)
+by-frozen : (r : VenueRules) (m : L3Message) (v : View) (ks : List Call) (k : Call) (o : Outcome) → (touches o → standingOf (v .status) ≡ valid)
+    → standingOf (viewBy r m o v .status) ≡ invalid → Frozen v (viewBy r m o v) ks (keptBy o ks k)
+by-frozen r m v ks k refused h q = record { was = inl q; kept = refl; line = refl }
+by-frozen r m v ks k (invalidates i) h q = record { was = inr (h tt); kept = refl; line = refl }
+by-frozen r m v ks k dropped h q = record { was = inl q; kept = refl; line = refl }
+by-frozen r m v ks k accepted h q = let z : _≡_ {A = ℕ} 0 1 = cc in absurd (omega arith)
 
 boot-frozen : (v : View) (ks : List Call) (k : Call) (bytes : List ℕ) (s : ReadSnapshot) (o : Option SnapshotAnswer)
     → standingOf (viewBoot o s bytes v .status) ≡ invalid → Frozen v (viewBoot o s bytes v) ks (keptBoot o s ks k)
@@ -87,8 +87,8 @@ boot-frozen v ks k bytes (pieces.Snapshot s) none q = let z : _≡_ {A = ℕ} 0 
 frozen : (c : Config) (v : View) (ks : List Call) (k : Call) → standingOf (feedView c v k .status) ≡ invalid → Frozen v (feedView c v k) ks (keptAfter c v ks k)
 unfolding feedView keptAfter
 frozen c v ks (bootstrap n bytes) q = boot-frozen v ks (bootstrap n bytes) bytes (readSnapshot bytes) (bootOutcome c n v bytes) q
-frozen c v ks (apply n m) q = by-frozen m v ks (apply n m) (applyOutcome c n false v m) (apply-touched c n v m) q
-frozen c v ks (step n h m) q = by-frozen m v ks (apply n m) (stepOutcome c n false v h m) (step-touched c n v h m) q
+frozen c v ks (apply n m) q = by-frozen (c .rules) m v ks (apply n m) (applyOutcome c n false v m) (apply-touched c n v m) q
+frozen c v ks (step n h m) q = by-frozen (c .rules) m v ks (apply n m) (stepOutcome c n false v h m) (step-touched c n v h m) q
 frozen c v ks (read x) q = record { was = inl q; kept = refl; line = refl }
 
 -- every prefix of the calls leaves the view invalid

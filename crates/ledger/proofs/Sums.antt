@@ -14,7 +14,7 @@ use Rattle.message.proofs.Amounts.{in-range-most}
 use Rattle.piece.specs.declared.ReadSnapshot.the-variants.{Snapshot}
 use Rattle.piece.specs.Piece.{orderAt, ordersFrom, readSnapshot}
 use Rattle.book.specs.Line.{Entry, sameLevel, volume}
-use Rattle.book.specs.Rows.{ceiling}
+use Rattle.reconstructor_state.specs.State.{ceiling}
 use Rattle.reconstructor_bootstrap.specs.Snapshot.{snapshotLine}
 use Rattle.reconstructor_bootstrap.specs.Places.{entryAt, entriesFrom}
 use Rattle.reconstructor_bootstrap.proofs.Places.{line-places}

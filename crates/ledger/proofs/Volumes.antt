@@ -20,11 +20,13 @@ use Rattle.message.specs.declared.L3Event.{L3Event}
 use Rattle.message.specs.declared.L3Event.the-variants.{Received, Open, Done, Match, Change, Unsupported}
 use Rattle.message.specs.Same.{sameSide, sameId}
 use Rattle.message.specs.Amounts.{natOf, differs}
+use Rattle.book.specs.declared.Decrease.{Decrease}
 use Rattle.book.specs.Line.{Entry, sameLevel, volume, find, left, cut}
+use Rattle.book.specs.Memory.{keep, cutTo, lineBy}
 use Rattle.book.proofs.Moves.{same-sides}
 use Rattle.reconstructor_state.specs.declared.VenueRules.{VenueRules}
 use Rattle.reconstructor_state.proofs.Checks.{passed}
-use Rattle.reconstructor_plan.specs.Rules.{eventRefusal, makerRefusal, changeRefusal, sizeRefusal, sizeGiven, keep, cutTo, effect, doneEffect, matchEffect, changeEffect, lineBy, entryFor}
+use Rattle.reconstructor_plan.specs.Rules.{eventRefusal, makerRefusal, changeRefusal, sizeRefusal, sizeGiven, effect, doneEffect, matchEffect, changeEffect, entryFor}
 use Rattle.ledger.specs.Ledger.{Figure, on, plus, less, lessOf, tally, tallied, nought}
 
 pub volume-cons : (s : L3Side) (p : ℕ) (e : Entry) (l : List Entry) → volume s p (e ∷ l) ≡ on (e .side) (e .price) s p (e .remaining) + volume s p l
@@ -121,37 +123,37 @@ unfolding changeRefusal
 change-size e s why p oldSize newSize oldPrice newPrice funds h =
     size-most (e .remaining) newSize funds (passed _ _ _ (passed _ _ _ (passed _ _ _ h .1) .1) .1)
 
-changed : (l : List Entry) (f : Figure) (d : OrderId) (r : ℕ) (e : Entry) → Tallies f l → find d l ≡ some e → r ≤ e .remaining
-    → Tallies (less (e .side) (e .price) (e .remaining - r) f) (lineBy (cond (eqb r (e .remaining)) keep (cutTo d r)) l)
-changed l f d r e t q z = noop (eqb r (e .remaining)) refl
+changed : (l : List Entry) (f : Figure) (d : OrderId) (r : ℕ) (mark : Decrease) (e : Entry) → Tallies f l → find d l ≡ some e → r ≤ e .remaining
+    → Tallies (less (e .side) (e .price) (e .remaining - r) f) (lineBy (cond (eqb r (e .remaining)) keep (cutTo d r mark)) l)
+changed l f d r mark e t q z = noop (eqb r (e .remaining)) refl
   where
-    noop : (b : Bool) → eqb r (e .remaining) ≡ b → Tallies (less (e .side) (e .price) (e .remaining - r) f) (lineBy (cond b keep (cutTo d r)) l)
+    noop : (b : Bool) → eqb r (e .remaining) ≡ b → Tallies (less (e .side) (e .price) (e .remaining - r) f) (lineBy (cond b keep (cutTo d r mark)) l)
     noop true k = less-nothing l f (e .side) (e .price) (e .remaining - r) t (omega (arith, eqb-true r (e .remaining) k))
     noop false k = cut-tallies l f d r e t q z
 
-pub event-tallies : (v : VenueRules) (l : List Entry) (x : L3Event) (f : Figure) → Tallies f l → eventRefusal v l x ≡ none
-    → Tallies (tally l x f) (lineBy (effect l x) l)
+pub event-tallies : (v : VenueRules) (l : List Entry) (seq : ℕ) (x : L3Event) (f : Figure) → Tallies f l → eventRefusal v l x ≡ none
+    → Tallies (tally v l x f) (lineBy (effect v l seq x) l)
 unfolding Tallies eventRefusal effect tally
-event-tallies v l (Received d s) f t h = t
-event-tallies v l (Open d s p q) f t h =
+event-tallies v l seq (Received d s) f t h = t
+event-tallies v l seq (Open d s p q) f t h =
     λ s′ p′. omega (arith, t s′ p′, volume-append s′ p′ l (entryFor d s (natOf p) (natOf q) ∷ []), volume-cons s′ p′ (entryFor d s (natOf p) (natOf q)) [])
-event-tallies v l (Done d s p why r) f t h = go (find d l) refl
+event-tallies v l seq (Done d s p why r) f t h = go (find d l) refl
   where
     go : (o : Option Entry) → find d l ≡ o → Tallies (lessOf o (λ (e : Entry). e .remaining) f) (lineBy (doneEffect d o) l)
     go none q = t
     go (some e) q = simp sub-zero at (cut-tallies l f d 0 e t q (omega arith))
-event-tallies v l (Match m a s p q) f t h = go (find m l) refl (passed _ _ _ h .1)
+event-tallies v l seq (Match m a s p q) f t h = go (find m l) refl (passed _ _ _ h .1)
   where
     go : (o : Option Entry) → find m l ≡ o → makerRefusal o s p (natOf q) ≡ none → Tallies (less s (natOf p) (natOf q) f) (lineBy (matchEffect m o (natOf q)) l)
     go none o h = maker-rests s p (natOf q) h
     go (some e) o h = matched l f m s p (natOf q) e t o h
-event-tallies v l (Change d s why p oldSize newSize oldPrice newPrice funds) f t h = go (find d l) refl h
+event-tallies v l seq (Change d s why p oldSize newSize oldPrice newPrice funds) f t h = go (find d l) refl h
   where
     go : (o : Option Entry) → find d l ≡ o → changeRefusal o s why p oldSize newSize oldPrice newPrice funds ≡ none
-        → Tallies (lessOf o (λ (e : Entry). e .remaining - sizeGiven newSize) f) (lineBy (changeEffect d o (sizeGiven newSize)) l)
+        → Tallies (lessOf o (λ (e : Entry). e .remaining - sizeGiven newSize) f) (lineBy (changeEffect seq d o (sizeGiven newSize)) l)
     go none q h = t
-    go (some e) q h = changed l f d (sizeGiven newSize) e t q (change-size e s why p oldSize newSize oldPrice newPrice funds h)
-event-tallies v l (Unsupported k) f t h = t
+    go (some e) q h = changed l f d (sizeGiven newSize) _ e t q (change-size e s why p oldSize newSize oldPrice newPrice funds h)
+event-tallies v l seq (Unsupported k) f t h = t
 
 -- a snapshot's sizes, summed one by one, are the volumes of its line
 tallied-adds : (s : L3Side) (p : ℕ) (l : List Entry) (f : Figure) → tallied l f s p ≡ f s p + volume s p l

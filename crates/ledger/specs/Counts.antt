@@ -14,6 +14,7 @@ use Rattle.reconstructor_counts.specs.declared.MessageCounts.{MessageCounts}
 use Rattle.reconstructor_counts.specs.declared.Counter.{Counter}
 use Rattle.reconstructor_counts.specs.declared.Counter.the-variants as counters
 use Rattle.reconstructor_counts.specs.Counts.{largest, placeOf}
+use Rattle.reconstructor_state.specs.declared.VenueRules.{VenueRules}
 use Rattle.reconstructor_state.specs.State.{ceiling, View, Lengths, lastOf}
 use Rattle.reconstructor_plan.specs.Rules.{counterOf}
 use Rattle.reconstructor.specs.Refusals.{gateRefusal, turnRefusal}
@@ -36,10 +37,10 @@ answerPlace (answers.Invalidated i) = none
 answerPlace (answers.AwaitingSnapshot i) = some counters.SkippedWhileInvalid
 
 -- "Acceptance .. adds one to one counter"; what invalidates is not counted
-abbrev pub messagePlace : List Entry → L3Event → Option ApplyAnswer → Option InvalidationKind → Option Counter
-messagePlace l e (some a) t = answerPlace a
-messagePlace l e none (some k) = none
-messagePlace l e none none = some (counterOf l e)
+abbrev pub messagePlace : VenueRules → List Entry → L3Event → Option ApplyAnswer → Option InvalidationKind → Option Counter
+messagePlace v l e (some a) t = answerPlace a
+messagePlace v l e none (some k) = none
+messagePlace v l e none none = some (counterOf v l e)
 
 -- "dropped and counted"
 abbrev pub stepPlace : Option StepAnswer → Bool → Option Counter → Option Counter
@@ -64,7 +65,7 @@ hit i (some k) = cond (eqb (placeOf k) (placeOf i)) 1 0
 module _ (c : Config) where
   unfoldable pub applyPlace : View → Lengths → L3Message → Option Counter
   applyPlace w n m =
-      messagePlace (w .line) (m .event) (gateRefusal ceiling (c .product) (c .rules) n false w m) (turnRefusal (c .rules) (w .line) (lastOf (w .status)) m)
+      messagePlace (c .rules) (w .line) (m .event) (gateRefusal ceiling (c .product) (c .rules) n false w m) (turnRefusal (c .rules) (w .line) (lastOf (w .status)) m)
 
   unfoldable pub placeIn : View → Call → Option Counter
   placeIn w (bootstrap n bytes) = snapshotPlace (bootOutcome c n w bytes)

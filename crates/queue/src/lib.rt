@@ -6,7 +6,7 @@ use message::OrderId;
 use reconstructor_segments::SegmentName;
 use reconstructor_view::ViewError;
 ghost use mathlib.Core.Path.{_≡_};
-ghost use Rattle.queue.specs.Numbers.{queueErrorNumber, estimateTold, aheadTold};
+ghost use Rattle.queue.specs.Numbers.{queueErrorNumber};
 
 // Words of an ahead-list's entry: an order's id, high and low, and where it entered.
 pub const AHEAD_ENTRY_WORDS: usize = 3;
@@ -99,28 +99,6 @@ impl QueueError {
             QueueError::StaleEstimate => 50,
             QueueError::PriorityUnknown => 51,
             QueueError::NotResting => 52,
-        }
-    }
-}
-
-impl EstimateAnswer {
-    pub fn number(self) -> u64
-        ensures { λ r. ⌜ r ≡ estimateTold self .number ⌝ }
-    {
-        match self {
-            EstimateAnswer::Estimate(_) => 0,
-            EstimateAnswer::Refused(why) => why.number(),
-        }
-    }
-}
-
-impl AheadAnswer {
-    pub fn number(self) -> u64
-        ensures { λ r. ⌜ r ≡ aheadTold self .number ⌝ }
-    {
-        match self {
-            AheadAnswer::Ahead(_) => 0,
-            AheadAnswer::Refused(why) => why.number(),
         }
     }
 }

@@ -117,6 +117,7 @@ acceptedParts b mem sg sequence line = putBack sg (b .segments) (accepted b mem 
 -- a snapshot that meets no number
 pub record Accepted (top : ℕ) (b : BookReconstructor) (mem : Memory) (sg : List Segment) (bytes : List ℕ) : Type 0 where
   pub snapshot : L3Snapshot
+  pub read : readSnapshot bytes ≡ Snapshot snapshot
   pub is : bootstrapped top b mem sg bytes ≡ acceptedParts b mem sg (snapshot .sequence) (snapshotLine snapshot bytes)
   pub before : Usable top b mem (length sg)
   pub room : b .segments < length sg
@@ -150,6 +151,7 @@ module _ (top : ℕ) (b : BookReconstructor) (mem : Memory) (sg : List Segment) 
           let differ : length sg ≡ b .segments → ⊥ = eqb-false (length sg) (b .segments) (full .0) in
           record {
             snapshot = s;
+            read = q;
             is = settles none h ∙ ap (λ r. putBack sg (b .segments) (taken r b mem (length sg) last bytes)) q;
             before = u;
             room = omega (arith, differ, segments-lent b mem (length sg) (u .lent));

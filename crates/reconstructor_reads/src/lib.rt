@@ -18,7 +18,7 @@ ghost use Rattle.book.specs.Memory.{memory, ordersOf};
 ghost use Rattle.book.specs.Broken.{someRowBroken};
 ghost use Rattle.reconstructor_state.specs.State.{ceiling};
 ghost use Rattle.reconstructor_reads.specs.LevelReads.{profileWords, l2Words, queueContent, levelsContent, shows, shown, readOf, leaves, levelQueue, priorityProfile, l2, leavesStale, staleL2};
-ghost use Rattle.reconstructor_reads.specs.Numbers.{shownTold, levelTold, staleTold};
+ghost use Rattle.reconstructor_reads.specs.Numbers.{levelTold, staleTold};
 
 // Words of an entry: of `level_queue`, of `priority_profile`, of `l2` and `stale_l2`.
 pub const QUEUE_WORDS: usize = 5;
@@ -45,40 +45,6 @@ pub enum StaleAnswer {
     NotStale,
     Shown(Shown),
     Unusable(StateError),
-}
-
-impl Shown {
-    pub fn number(self) -> u64
-        ensures { λ r. ⌜ r ≡ shownTold self .number ⌝ }
-    {
-        match self {
-            Shown::Entries(_) => 0,
-            Shown::OutputTooSmall => 7,
-        }
-    }
-}
-
-impl LevelAnswer {
-    pub fn number(self) -> u64
-        ensures { λ r. ⌜ r ≡ levelTold self .number ⌝ }
-    {
-        match self {
-            LevelAnswer::Shown(shown) => shown.number(),
-            LevelAnswer::Refused(why) => why.number(),
-        }
-    }
-}
-
-impl StaleAnswer {
-    pub fn number(self) -> u64
-        ensures { λ r. ⌜ r ≡ staleTold self .number ⌝ }
-    {
-        match self {
-            StaleAnswer::NotStale => 256,
-            StaleAnswer::Shown(shown) => shown.number(),
-            StaleAnswer::Unusable(why) => why.number(),
-        }
-    }
 }
 
 // Shows the orders at a side and price.
@@ -164,52 +130,8 @@ pub fn level_queue_under(
     }
 }
 
-// Per level, best first: price, total size and the size of unknown priority.
-pub fn priority_profile(
-    book: BookReconstructor,
-    rows: &[u64],
-    scratch: &mut [u64],
-    side: L3Side,
-    out: &mut [u64],
-) -> LevelAnswer
-    ensures { λ r. ⌜ leaves r (now (scratch .exit)) (now (out .exit)) ≡ priorityProfile ceiling book (memory (now (rows .entry))) (now (scratch .entry)) side (now (out .entry)) ⌝ }
-    ensures told { λ r. ⌜ levelTold r ≡ levelTold (priorityProfile ceiling book (memory (now (rows .entry))) (now (scratch .entry)) side (now (out .entry)) .answer) ⌝ }
-{
-    levels_under(
-        VenueRules::CEILING,
-        book,
-        rows,
-        scratch,
-        side,
-        PROFILE_WORDS,
-        out,
-    )
-}
-
-// Aggregated size per price, best first.
-pub fn l2(
-    book: BookReconstructor,
-    rows: &[u64],
-    scratch: &mut [u64],
-    side: L3Side,
-    out: &mut [u64],
-) -> LevelAnswer
-    ensures { λ r. ⌜ leaves r (now (scratch .exit)) (now (out .exit)) ≡ l2 ceiling book (memory (now (rows .entry))) (now (scratch .entry)) side (now (out .entry)) ⌝ }
-    ensures told { λ r. ⌜ levelTold r ≡ levelTold (l2 ceiling book (memory (now (rows .entry))) (now (scratch .entry)) side (now (out .entry)) .answer) ⌝ }
-{
-    levels_under(
-        VenueRules::CEILING,
-        book,
-        rows,
-        scratch,
-        side,
-        L2_WORDS,
-        out,
-    )
-}
-
-// The levels of a side of a valid book, `width` words each: `priority_profile` or `l2`.
-pub fn levels_under(
+// Shows the levels of a side of a valid book, `width` words each.
+fn level_read(
     top: usize,
     book: BookReconstructor,
     rows: &[u64],
@@ -229,6 +151,62 @@ pub fn levels_under(
             LevelAnswer::Shown(show_levels(rows, book.rows, scratch, most, side, width, out))
         }
     }
+}
+
+// Per level, best first: price, total size and the size of unknown priority.
+pub fn priority_profile(
+    book: BookReconstructor,
+    rows: &[u64],
+    scratch: &mut [u64],
+    side: L3Side,
+    out: &mut [u64],
+) -> LevelAnswer
+    ensures { λ r. ⌜ leaves r (now (scratch .exit)) (now (out .exit)) ≡ priorityProfile ceiling book (memory (now (rows .entry))) (now (scratch .entry)) side (now (out .entry)) ⌝ }
+    ensures told { λ r. ⌜ levelTold r ≡ levelTold (priorityProfile ceiling book (memory (now (rows .entry))) (now (scratch .entry)) side (now (out .entry)) .answer) ⌝ }
+{
+    priority_profile_under(VenueRules::CEILING, book, rows, scratch, side, out)
+}
+
+pub fn priority_profile_under(
+    top: usize,
+    book: BookReconstructor,
+    rows: &[u64],
+    scratch: &mut [u64],
+    side: L3Side,
+    out: &mut [u64],
+) -> LevelAnswer
+    requires { ⌜ top ≤ mostRows ⌝ }
+    ensures { λ r. ⌜ leaves r (now (scratch .exit)) (now (out .exit)) ≡ priorityProfile top book (memory (now (rows .entry))) (now (scratch .entry)) side (now (out .entry)) ⌝ }
+{
+    level_read(top, book, rows, scratch, side, PROFILE_WORDS, out)
+}
+
+// Aggregated size per price, best first.
+pub fn l2(
+    book: BookReconstructor,
+    rows: &[u64],
+    scratch: &mut [u64],
+    side: L3Side,
+    out: &mut [u64],
+) -> LevelAnswer
+    ensures { λ r. ⌜ leaves r (now (scratch .exit)) (now (out .exit)) ≡ l2 ceiling book (memory (now (rows .entry))) (now (scratch .entry)) side (now (out .entry)) ⌝ }
+    ensures told { λ r. ⌜ levelTold r ≡ levelTold (l2 ceiling book (memory (now (rows .entry))) (now (scratch .entry)) side (now (out .entry)) .answer) ⌝ }
+{
+    l2_under(VenueRules::CEILING, book, rows, scratch, side, out)
+}
+
+pub fn l2_under(
+    top: usize,
+    book: BookReconstructor,
+    rows: &[u64],
+    scratch: &mut [u64],
+    side: L3Side,
+    out: &mut [u64],
+) -> LevelAnswer
+    requires { ⌜ top ≤ mostRows ⌝ }
+    ensures { λ r. ⌜ leaves r (now (scratch .exit)) (now (out .exit)) ≡ l2 top book (memory (now (rows .entry))) (now (scratch .entry)) side (now (out .entry)) ⌝ }
+{
+    level_read(top, book, rows, scratch, side, L2_WORDS, out)
 }
 
 // The last good book's aggregated sizes while invalidated: a stale diagnostic, never a valid view.

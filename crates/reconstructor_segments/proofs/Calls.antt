@@ -1,6 +1,7 @@
--- Calls of the three functions on a list of segment records, by whoever holds the list as a `&mut [Segment]`. Each is one step of a walk: the list is lent for the call and is back after it.
+-- Calls of the three functions on a list of segment records, each one step of a walk. Where the list is held as a `&mut [Segment]` it is lent for the call and is back after it.
 --     reborrow     the code that lends a slice: `r = &*i.0; s = (r, i.1);`
---     reads-last   `last_segment`: the record that it answers
+--     reads-last   `last_segment`: what lands is the list's last record
+--     passes-last  the same, where the list is held as a `&[Segment]` and is passed on for good
 --     puts-at      `rewrite_last` and `append_segment`: the list with the record at its place, by `put`
 -- `Last` is the first one's contract, and `Put`'s `Says` the others', as a caller's proof hands them in (`known`). Assumes `Given`.
 use mathlib.Core.Path.{_≡_, refl, sym, subst}
@@ -17,14 +18,14 @@ use prog.Wp.{Heap, Calls, Loops, Env}
 use ghost.Atoms.{Atoms}
 use sound.WpLaws.{FmC}
 use contract.Monad.{fact}
-use types.Kit.{Given, Item, ‵, Post, runs, lands, Seq, Step, step, _$_, move, drop, split, join, rewrite, fsplit, fjoin}
+use types.Kit.{Given, Item, ‵, Post, runs, lands, Seq, Step, step, _$_, regoal, move, drop, split, join, rewrite, fsplit, fjoin}
 use types.Run.{Opds}
 use denote.RattleType.{RattleType}
 use denote.Laws.{Is}
 use denote.Plain.{uint-makes, nothing-tells}
 use denote.Builtin.{usize}
 use denote.Ref.{now}
-use denote.Slice.{sliceVal, MutSlice, Room}
+use denote.Slice.{sliceVal, MutSlice, ShrSlice, Room}
 use denote.Steps.{owned, nothing}
 use denote.Struct.Laws as LL
 use denote.Triple.Clauses.{Clauses}
@@ -51,14 +52,21 @@ abbrev pub mach : Segment → Val
 mach = LL.val T.the-type T′.the-laws
 
 module _ {M : Type 1} {𝓤 : URA M} {H : Heap 𝓤} {A : Atoms 𝓤} {K : Type 0} {W : Given 𝓤 H A} {Γ : List (Item 𝓤)} {E : Env 𝓤 H} {C : Calls 𝓤 H} {Λ : Loops 𝓤 H} {p : Post 𝓤 H} {f : Name} {xs : List Opd} {d : Place} {rest : Body} {κ : Lft} {q : Share} where
+  pub passes-last : K → FmC 𝓤 H (W .laws) C → Knows H A C f last.ended (Last 𝓤) → (b o : ℕ) (γ : GName) (ys : List Segment) (n : ℕ) → n < 2 ^ 64
+      → ((i : Item 𝓤) → Opds K W (i ∷ Γ) E xs (val R b o ys ∷ vint w64 n ∷ [])) → (Is R (lastSegment ys n) (mach (lastSegment ys n) ∷ []) → Seq K W (‵ (flft κ q) ∷ Γ) (lands C Λ E d (mach (lastSegment ys n)) rest p))
+      → Seq K W (‵ (ShrSlice (named 0) κ R .own (at R b o γ ys) (val R b o ys ∷ [])) ∷ ‵ (flft κ q) ∷ Γ) (runs C Λ E (seq (call f xs d) rest) p)
+  passes-last t fm known b o γ ys n n-fits os k = nothing t $ move t (2 ∷ 0 ∷ []) $ join t $
+      nothing t $ owned t usize (Is usize) (uint-makes 𝓤 H A W w64) n _ (refl, n-fits) $ fjoin t $ move t (2 ∷ 0 ∷ []) $ fjoin t $ move t (1 ∷ 0 ∷ []) $
+      calls-said t fm last.ended (Last 𝓤) known (((κ, tt), (q, tt), tt, (at R b o γ ys, (n, tt)), (val R b o ys ∷ [], (vint w64 n ∷ [], tt))), tt) (id⊢ 𝓤 _) (λ g _. g ≡ lastSegment ys n) (λ g _. id⊢ 𝓤 _) mach (LL.tells T.the-type T′.the-laws) os (λ g _ e is.
+      split t $ move t (1 ∷ 2 ∷ []) $ drop t $ drop t $ regoal t (λ (y : Segment). lands C Λ E d (mach y) rest p) e refl $ k (subst (λ (y : Segment). Is R y (mach y ∷ [])) e is))
+
+module _ {M : Type 1} {𝓤 : URA M} {H : Heap 𝓤} {A : Atoms 𝓤} {K : Type 0} {W : Given 𝓤 H A} {Γ : List (Item 𝓤)} {E : Env 𝓤 H} {C : Calls 𝓤 H} {Λ : Loops 𝓤 H} {p : Post 𝓤 H} {f : Name} {xs : List Opd} {d : Place} {rest : Body} {κ : Lft} {q : Share} where
   pub reads-last : K → FmC 𝓤 H (W .laws) C → Knows H A C f last.ended (Last 𝓤) → (b o : ℕ) (γ : GName) (ys : List Segment) → Room R (length ys) → (n : ℕ) → n < 2 ^ 64
       → ((i j : Item 𝓤) → Opds K W (i ∷ j ∷ Γ) E xs (val R b o ys ∷ vint w64 n ∷ []))
-      → ((g : Segment) → g ≡ lastSegment ys n → Is R g (mach g ∷ []) → Seq K W (‵ (MutSlice (named 0) κ R .own (at R b o γ ys) (val R b o ys ∷ [])) ∷ ‵ (flft κ q) ∷ Γ) (lands C Λ E d (mach g) rest p))
+      → (Is R (lastSegment ys n) (mach (lastSegment ys n) ∷ []) → Seq K W (‵ (MutSlice (named 0) κ R .own (at R b o γ ys) (val R b o ys ∷ [])) ∷ ‵ (flft κ q) ∷ Γ) (lands C Λ E d (mach (lastSegment ys n)) rest p))
       → Seq K W (‵ (MutSlice (named 0) κ R .own (at R b o γ ys) (val R b o ys ∷ [])) ∷ ‵ (flft κ q) ∷ Γ) (runs C Λ E (seq (call f xs d) rest) p)
-  reads-last t fm known b o γ ys room n n-fits os k = lends-shr R b o γ t tt ys room (λ ν δ. nothing t $ move t (1 ∷ 0 ∷ []) $ join t $
-      nothing t $ owned t usize (Is usize) (uint-makes 𝓤 H A W w64) n _ (refl, n-fits) $ fjoin t $ move t (2 ∷ 0 ∷ []) $ fjoin t $ move t (1 ∷ 0 ∷ []) $
-      calls-said t fm last.ended (Last 𝓤) known (((ν ∷ [], tt), (fullShare, tt), tt, (at R b o δ ys, (n, tt)), (val R b o ys ∷ [], (vint w64 n ∷ [], tt))), tt) (id⊢ 𝓤 _) (λ g _. g ≡ lastSegment ys n) (λ g _. id⊢ 𝓤 _) mach (LL.tells T.the-type T′.the-laws) (λ i. os i _) (λ g _ e is.
-      split t $ move t (1 ∷ 2 ∷ []) $ drop t $ drop t $ back-shr R b o γ t tt ν ys room $ k g e is))
+  reads-last t fm known b o γ ys room n n-fits os k = lends-shr R b o γ t tt ys room (λ ν δ. move t (1 ∷ 0 ∷ []) $
+      passes-last t fm known b o δ ys n n-fits (λ i. os i _) (λ is. back-shr R b o γ t tt ν ys room $ k is))
 
   puts : K → FmC 𝓤 H (W .laws) C → (put : List Segment → ℕ → Segment → List Segment) → Knows H A C f append.ended (Says 𝓤 put) → (b o : ℕ) (γ : GName) (ys : List Segment) → Room R (length ys) → (n : ℕ) → n < 2 ^ 64
       → (g : Segment) → Is R g (mach g ∷ []) → ((i j : Item 𝓤) → Opds K W (i ∷ j ∷ Γ) E xs (val R b o ys ∷ vint w64 n ∷ mach g ∷ []))

@@ -1,4 +1,4 @@
--- What a book that may be read has.
+-- What a book that may be read has: each check that the refusal passed, peeled off one after the other, is a fact of the state and its memory.
 -- Assumes nothing.
 use Prim.Native.Nat.{ℕ}
 use mathlib.Core.Path.{_≡_, refl}
@@ -22,15 +22,15 @@ use Rattle.reconstructor_view.specs.ValueReads.{readRefusal, viewRefusal
 
 -- ---- what an answer tells
 
-told-refused : (o : Option ViewError) (last : ℕ) (r : SequenceAnswer) (e : ViewError) → r ≡ sequenceOf o last → r ≡ Refused e → o ≡ some e
+answer-refused : (o : Option ViewError) (last : ℕ) (r : SequenceAnswer) (e : ViewError) → r ≡ sequenceOf o last → r ≡ Refused e → o ≡ some e
 unfolding sequenceOf
-told-refused none last r e p q = let z : _≡_ {A = ℕ} 0 1 = cc in absurd (omega arith)
-told-refused (some d) last r e p q = cc
+answer-refused none last r e p q = let z : _≡_ {A = ℕ} 0 1 = cc in absurd (omega arith)
+answer-refused (some d) last r e p q = cc
 
-told-valid : (o : Option ViewError) (last : ℕ) (r : SequenceAnswer) (l : ℕ) → r ≡ sequenceOf o last → r ≡ Valid l → (o ≡ none) × (l ≡ last)
+answer-valid : (o : Option ViewError) (last : ℕ) (r : SequenceAnswer) (l : ℕ) → r ≡ sequenceOf o last → r ≡ Valid l → (o ≡ none) × (l ≡ last)
 unfolding sequenceOf
-told-valid none last r l p q = (refl, cc)
-told-valid (some d) last r l p q = let z : _≡_ {A = ℕ} 0 1 = cc in absurd (omega arith)
+answer-valid none last r l p q = (refl, cc)
+answer-valid (some d) last r l p q = let z : _≡_ {A = ℕ} 0 1 = cc in absurd (omega arith)
 
 -- ---- what a read has once 1, 2 and 3 are passed
 
@@ -54,11 +54,11 @@ module _ (top : ℕ) (b : BookReconstructor) (mem : Memory) (short : Bool) where
 
   -- the same from the answer of `valid_book`
   module _ (r : SequenceAnswer) (told : r ≡ sequenceOf (viewRefusalOf top b mem short) (lastOf (b .status))) where
-    pub turned : (e : ViewError) → r ≡ Refused e → viewRefusalOf top b mem short ≡ some e
-    turned e q = told-refused _ _ r e told q
+    pub refused-for : (e : ViewError) → r ≡ Refused e → viewRefusalOf top b mem short ≡ some e
+    refused-for e q = answer-refused _ _ r e told q
 
-    pub admitted : (last : ℕ) → r ≡ Valid last → (viewRefusalOf top b mem short ≡ none) × (last ≡ lastOf (b .status)) × Readable top b mem short
-    admitted last q = let v = told-valid _ _ r last told q in (v .0, v .1, valid-read (v .0) .0)
+    pub found-valid : (last : ℕ) → r ≡ Valid last → (viewRefusalOf top b mem short ≡ none) × (last ≡ lastOf (b .status)) × Readable top b mem short
+    found-valid last q = let v = answer-valid _ _ r last told q in (v .0, v .1, valid-read (v .0) .0)
 
   -- an audit finds nothing
   pub audit-ok : Readable top b mem short → auditRows (ordersOf mem (b .rows)) ≡ Ok

@@ -11,9 +11,9 @@ use Rattle.reconstructor_counts.specs.Counts.{saturated}
 use Rattle.reconstructor_state.specs.Checks.{check, first}
 use Rattle.reconstructor_checks.specs.Own.{broken, stateRefusal}
 use Rattle.reconstructor_bootstrap.specs.Snapshot.{lineRefusal, snapshotRefusal, acceptRefusal, bootRefusal}
-use Rattle.reconstructor_bootstrap.specs.Bootstrap.{closed, bootstrapped}
+use Rattle.reconstructor_bootstrap.specs.Bootstrap.{closed, bootstrappedTo, bootstrapped}
 use Rattle.stars.specs.Snapshots.{Examples}
 
 pub examples : Examples
-unfolding check first stateRefusal broken rowBroken sideOf sameId sameProduct saturated rowsFrom stored inRange orderInRange ordersInRange part little big littleBytes bigBytes wordAt amountAt orderIdAt productIdAt bidsAt asksAt snapshotShaped orderFrom orderAt ordersFrom snapshotOf readSnapshot lineRefusal snapshotRefusal acceptRefusal bootRefusal closed bootstrapped
+unfolding check first stateRefusal broken rowBroken sideOf sameId sameProduct saturated rowsFrom stored inRange orderInRange ordersInRange part little big littleBytes bigBytes wordAt amountAt orderIdAt productIdAt bidsAt asksAt snapshotShaped orderFrom orderAt ordersFrom snapshotOf readSnapshot lineRefusal snapshotRefusal acceptRefusal bootRefusal closed bootstrappedTo bootstrapped
 examples = record { made = refl; again = refl; kept = refl; numbers = refl; orders = refl }

@@ -13,17 +13,17 @@ use Rattle.reconstructor_counts.specs.Counts.{saturated}
 use Rattle.reconstructor_checks.specs.Own.{broken, stateRefusal}
 use Rattle.reconstructor_plan.specs.Rules.{openRefusal, doneRefusal, makerRefusal, changeRefusal, sizeRefusal, eventRefusal, effect, counterOf, eventDeed}
 use Rattle.reconstructor.specs.Refusals.{admitRefusal, gateRefusal, turnRefusal}
-use Rattle.reconstructor.specs.Applied.{refusedReply, invalidatedReply, acceptedReply, accepted, recorded, settled, gated, applied}
+use Rattle.reconstructor.specs.Applied.{refusedReply, invalidatedReply, acceptedReply, accepted, decided, answered, appliedTo, applied}
 use Rattle.reconstructor_bootstrap.specs.Snapshot.{lineRefusal, snapshotRefusal, acceptRefusal, bootRefusal}
-use Rattle.reconstructor_bootstrap.specs.Bootstrap.{closed, bootstrapped}
-use Rattle.reconstructor_handshake.specs.Step.{stepRefusal, settledStep, stepped}
-use Rattle.reconstructor_view.specs.View.{readRefusal, viewRefusal, auditedOf}
-use Rattle.reconstructor_reads.specs.Reads.{shown, levelRead}
+use Rattle.reconstructor_bootstrap.specs.Bootstrap.{closed, bootstrappedTo, bootstrapped}
+use Rattle.reconstructor_handshake.specs.Step.{stepRefusal, unlessRefused, steppedTo, stepped}
+use Rattle.reconstructor_view.specs.ValueReads.{readRefusal, viewRefusal, auditedOf}
+use Rattle.reconstructor_reads.specs.LevelReads.{shown, levelRead}
 use Rattle.queue.specs.Ahead.{entriesFrom}
 use Rattle.queue.specs.Estimates.{estimated, ownViewed, aheadRefusal, tallied, aheadOf}
 use Rattle.stars.specs.Stars.{Stars}
 use Rattle.stars.proofs.Snapshots.{examples}
 
 pub stars : Stars
-unfolding applied gated settled recorded accepted acceptedReply invalidatedReply refusedReply turnRefusal gateRefusal admitRefusal stateRefusal broken eventDeed counterOf effect eventRefusal sizeRefusal changeRefusal makerRefusal doneRefusal openRefusal check first saturated rowsFrom stored sideOf rowBroken inRange optionalInRange eventInRange orderInRange ordersInRange differs givenDiffers absentOrDiffers sameId sameProduct viewRefusal readRefusal auditedOf shown levelRead estimated ownViewed aheadRefusal tallied aheadOf entriesFrom stepped settledStep stepRefusal part little big littleBytes bigBytes wordAt amountAt orderIdAt productIdAt bidsAt asksAt snapshotShaped orderFrom orderAt ordersFrom snapshotOf readSnapshot lineRefusal snapshotRefusal acceptRefusal bootRefusal closed bootstrapped
+unfolding applied appliedTo answered decided accepted acceptedReply invalidatedReply refusedReply turnRefusal gateRefusal admitRefusal stateRefusal broken eventDeed counterOf effect eventRefusal sizeRefusal changeRefusal makerRefusal doneRefusal openRefusal check first saturated rowsFrom stored sideOf rowBroken inRange optionalInRange eventInRange orderInRange ordersInRange differs givenDiffers absentOrDiffers sameId sameProduct viewRefusal readRefusal auditedOf shown levelRead estimated ownViewed aheadRefusal tallied aheadOf entriesFrom stepped steppedTo unlessRefused stepRefusal part little big littleBytes bigBytes wordAt amountAt orderIdAt productIdAt bidsAt asksAt snapshotShaped orderFrom orderAt ordersFrom snapshotOf readSnapshot lineRefusal snapshotRefusal acceptRefusal bootRefusal closed bootstrappedTo bootstrapped
 stars = record { numbers = refl; gap = refl; behind = refl; snapshots = examples; skipped = refl; unread = refl; steps = refl; reads = refl; c1 = refl; c2 = refl; c2-ahead = refl; c2-rows = refl; c2-list = refl; c3-rows = refl; c3-applied = refl }

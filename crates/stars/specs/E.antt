@@ -7,7 +7,8 @@ use lib.ListN.{replicate}
 use Rattle.message.specs.declared.ProductId.{ProductId}
 use Rattle.message.specs.declared.SnapshotOrder.{SnapshotOrder}
 use Rattle.piece.specs.Encode.{snapshotBytes}
-use Rattle.book.specs.Rows.{ceiling}
+use Rattle.book.specs.Memory.{Memory, memory}
+use Rattle.reconstructor_state.specs.State.{ceiling}
 use Rattle.reconstructor_segments.specs.declared.Segment.{Segment}
 use Rattle.reconstructor_state.specs.declared.BookReconstructor.{BookReconstructor}
 use Rattle.reconstructor_state.specs.State.{limitedRules, newBook}
@@ -54,8 +55,8 @@ segment start good end endGood endSeq detail first last =
 abbrev pub anyRecord : Segment
 anyRecord = segment 7 7 7 7 7 7 7 7
 
-abbrev pub anyRows : List ℕ
-anyRows = replicate 25 7
+abbrev pub anyRows : Memory
+anyRows = memory (replicate 25 7)
 
 abbrev pub anyRecords : List Segment
 anyRecords = replicate 2 anyRecord
@@ -71,6 +72,9 @@ bookE = bootedBook (fresh 3 3) 100 2
 
 abbrev pub rowsE : List ℕ
 rowsE = 0 ∷ 1 ∷ 10 ∷ 2 ∷ 0 ∷ 100 ∷ 0 ∷ 0 ∷ 0 ∷ 2 ∷ 12 ∷ 3 ∷ 1 ∷ 100 ∷ 0 ∷ 0 ∷ replicate 9 7
+
+abbrev pub memoryE : Memory
+memoryE = memory rowsE
 
 abbrev pub segmentsE : List Segment
 segmentsE = segment 100 100 0 0 0 0 0 0 ∷ anyRecord ∷ []

@@ -18,7 +18,8 @@ use Rattle.message.specs.declared.L3Event.{L3Event}
 use Rattle.message.specs.declared.L3Event.the-variants.{Received, Open, Done, Match, Change, Unsupported}
 use Rattle.message.specs.declared.L3Message.{L3Message}
 use Rattle.book.specs.Line.{volume}
-use Rattle.book.specs.Rows.{ceiling, rowsOf, lineOf}
+use Rattle.book.specs.Memory.{Memory, memory, lineIn}
+use Rattle.reconstructor_state.specs.State.{ceiling}
 use Rattle.reconstructor_counts.specs.Counts.{largest}
 use Rattle.reconstructor_segments.specs.declared.Segment.{Segment}
 use Rattle.reconstructor_state.specs.declared.Status.the-variants.{Valid}
@@ -30,9 +31,9 @@ use Rattle.reconstructor_handshake.specs.declared.Handshake.{Handshake}
 use Rattle.reconstructor_handshake.specs.declared.StepAnswer.{StepAnswer}
 use Rattle.reconstructor_handshake.specs.Step.{StepParts, stepTold, stepped}
 use Rattle.reconstructor_view.specs.Numbers.{auditedTold}
-use Rattle.reconstructor_view.specs.View.{auditRead}
+use Rattle.reconstructor_view.specs.ValueReads.{auditRead}
 use Rattle.reconstructor_reads.specs.Numbers.{levelTold}
-use Rattle.reconstructor_reads.specs.Reads.{levelQueue, l2}
+use Rattle.reconstructor_reads.specs.LevelReads.{levelQueue, l2}
 use Rattle.queue.specs.declared.Assumption.the-variants.{EntrySequenceIsPriority}
 use Rattle.queue.specs.declared.QueueAhead.{QueueAhead}
 use Rattle.queue.specs.declared.EstimateAnswer.{EstimateAnswer}
@@ -41,7 +42,7 @@ use Rattle.queue.specs.declared.AheadAnswer.{AheadAnswer}
 use Rattle.queue.specs.declared.AheadAnswer.the-variants as queues
 use Rattle.queue.specs.Numbers.{estimateTold, aheadTold}
 use Rattle.queue.specs.Estimates.{EstimateParts, queueEstimate, queueEstimateOwn, volumeAhead}
-use Rattle.stars.specs.E.{productP, productQ, orderA, orderB, piece, fresh, segment, anyRecord, snapshotAt, bookE, rowsE, segmentsE}
+use Rattle.stars.specs.E.{productP, productQ, orderA, orderB, piece, fresh, segment, anyRecord, snapshotAt, bookE, rowsE, memoryE, segmentsE}
 use Rattle.stars.specs.Snapshots.{Examples}
 
 abbrev id : ℕ → OrderId
@@ -72,27 +73,27 @@ at101 e = at 101 e
 -- a state with what is lent to it, and a message
 pub record Call : Type 0 where
   pub book : BookReconstructor
-  pub rows : List ℕ
+  pub memory : Memory
   pub list : List Segment
   pub message : L3Message
 
 abbrev after : Call → Parts
-after c = applied ceiling (c .book) (c .rows) (c .list) (c .message)
+after c = applied ceiling (c .book) (c .memory) (c .list) (c .message)
 
 -- a state and rows, with E's list
-abbrev given : BookReconstructor → List ℕ → L3Message → Call
-given b ws m = record { book = b; rows = ws; list = segmentsE; message = m }
+abbrev given : BookReconstructor → Memory → L3Message → Call
+given b mem m = record { book = b; memory = mem; list = segmentsE; message = m }
 
 abbrev onE : L3Message → Call
-onE m = given bookE rowsE m
+onE m = given bookE memoryE m
 
 -- what one call left, with the next message
 abbrev next : Call → L3Message → Call
-next c m = record { book = after c .book; rows = after c .rows; list = after c .segments; message = m }
+next c m = record { book = after c .book; memory = after c .memory; list = after c .segments; message = m }
 
 -- what a snapshot left, with the next message
 abbrev then : SnapshotParts → L3Message → Call
-then p m = record { book = p .book; rows = p .rows; list = p .segments; message = m }
+then p m = record { book = p .book; memory = p .memory; list = p .segments; message = m }
 
 -- what a call was told
 abbrev toldOf : Call → Told
@@ -127,12 +128,12 @@ row n c = record { number = n; example = c }
 
 abbrev table : List Row
 table =
-    row 1 (given (bootedBook (fresh 4097 3) 100 2) rowsE (at101 (Received z Buy))) ∷
-    row 2 (given bookE (take 23 rowsE) (at101 (Received z Buy))) ∷
-    row 3 (given bookE (set rowsE 2 0) (at101 (Received z Buy))) ∷
+    row 1 (given (bootedBook (fresh 4097 3) 100 2) memoryE (at101 (Received z Buy))) ∷
+    row 2 (given bookE (memory (take 23 rowsE)) (at101 (Received z Buy))) ∷
+    row 3 (given bookE (memory (set rowsE 2 0)) (at101 (Received z Buy))) ∷
     row 5 (onE (at101 (Open o Buy (pos 1000000000000001) (pos 1)))) ∷
     row 10 (onE (of productQ 101 (Open o Buy (pos 10) (pos 1)))) ∷
-    row 15 (given (fresh 3 3) rowsE (at101 (Open o Buy (pos 10) (pos 1)))) ∷
+    row 15 (given (fresh 3 3) memoryE (at101 (Open o Buy (pos 10) (pos 1)))) ∷
     row 17 (next (onE (at101 (Unsupported 7))) (at101 (Unsupported 7))) ∷
     row 20 gap ∷
     row 21 behind ∷
@@ -161,11 +162,11 @@ abbrev handshake : ℕ → Bool → Handshake
 handshake number ended = record { segment = record { number = number; place = 0 }; ended = ended; applied = 0 }
 
 abbrev stepE : Handshake → L3Message → StepParts
-stepE h m = stepped ceiling h bookE rowsE segmentsE m
+stepE h m = stepped ceiling h bookE memoryE segmentsE m
 
 -- "step after 16": what the first step left, stepped again
 abbrev again : StepParts → L3Message → StepParts
-again p m = stepped ceiling (p .handshake) (p .book) (p .rows) (p .segments) m
+again p m = stepped ceiling (p .handshake) (p .book) (p .memory) (p .segments) m
 
 -- 9, of a handshake that 16 ended, of one that is of another book; a message of before the snapshot is dropped, one of after it applied
 abbrev steps : List StepAnswer
@@ -182,40 +183,40 @@ steps =
 abbrev scratch : List ℕ
 scratch = 5 ∷ 5 ∷ 5 ∷ []
 
-abbrev own : BookReconstructor → List ℕ → OrderId → EstimateAnswer
-own b ws d = queueEstimateOwn ceiling b ws d
+abbrev own : BookReconstructor → Memory → OrderId → EstimateAnswer
+own b mem d = queueEstimateOwn ceiling b mem d
 
 -- the volume ahead that an estimate leads to
-abbrev aheadFrom : BookReconstructor → List ℕ → EstimateAnswer → List ℕ → AheadAnswer
-aheadFrom b ws (estimates.Estimate q) l = volumeAhead ceiling b ws q l
-aheadFrom b ws (estimates.Refused e) l = queues.Refused e
+abbrev aheadFrom : BookReconstructor → Memory → EstimateAnswer → List ℕ → AheadAnswer
+aheadFrom b mem (estimates.Estimate q) l = volumeAhead ceiling b mem q l
+aheadFrom b mem (estimates.Refused e) l = queues.Refused e
 
 -- a hypothetical order's estimate on E, with the order ahead in its list
 abbrev guess : EstimateParts
-guess = queueEstimate ceiling bookE rowsE Buy (pos 10) (replicate 3 7)
+guess = queueEstimate ceiling bookE memoryE Buy (pos 10) (replicate 3 7)
 
 -- a new snapshot of A and B, on a state and its memory
-abbrev renewed : BookReconstructor → List ℕ → List Segment → SnapshotParts
-renewed b ws sg = bootstrapped ceiling b ws sg (piece productP 200 (orderA ∷ []) (orderB ∷ []))
+abbrev renewed : BookReconstructor → Memory → List Segment → SnapshotParts
+renewed b mem sg = bootstrapped ceiling b mem sg (piece productP 200 (orderA ∷ []) (orderB ∷ []))
 
 -- on E, and on what the open of C left
 abbrev newE : SnapshotParts
-newE = renewed bookE rowsE segmentsE
+newE = renewed bookE memoryE segmentsE
 
 abbrev newOpened : SnapshotParts
-newOpened = renewed (after opened .book) (after opened .rows) (after opened .segments)
+newOpened = renewed (after opened .book) (after opened .memory) (after opened .segments)
 
 -- 7, 8, 15, 18; 50 of either estimate; 51, 52
 abbrev reads : List Told
 reads =
-    levelTold (levelQueue ceiling bookE rowsE scratch Buy (pos 10) [] .answer) ∷
-    aheadTold (aheadFrom bookE rowsE (guess .answer) (take 2 (guess .ahead))) ∷
-    levelTold (l2 ceiling (fresh 3 3) rowsE scratch Buy [] .answer) ∷
-    auditedTold (auditRead ceiling (after gap .book) (after gap .rows)) ∷
-    aheadTold (aheadFrom (newE .book) (newE .rows) (guess .answer) (guess .ahead)) ∷
-    aheadTold (aheadFrom (newOpened .book) (newOpened .rows) (own (after opened .book) (after opened .rows) o) []) ∷
-    estimateTold (own bookE rowsE a) ∷
-    estimateTold (own bookE rowsE z) ∷
+    levelTold (levelQueue ceiling bookE memoryE scratch Buy (pos 10) [] .answer) ∷
+    aheadTold (aheadFrom bookE memoryE (guess .answer) (take 2 (guess .ahead))) ∷
+    levelTold (l2 ceiling (fresh 3 3) memoryE scratch Buy [] .answer) ∷
+    auditedTold (auditRead ceiling (after gap .book) (after gap .memory)) ∷
+    aheadTold (aheadFrom (newE .book) (newE .memory) (guess .answer) (guess .ahead)) ∷
+    aheadTold (aheadFrom (newOpened .book) (newOpened .memory) (own (after opened .book) (after opened .memory) o) []) ∷
+    estimateTold (own bookE memoryE a) ∷
+    estimateTold (own bookE memoryE z) ∷
     []
 
 -- ---- C1, C2, C3
@@ -244,7 +245,7 @@ pub record Stars : Type 0 where
   pub numbers : map (λ (r : Row). numberOf (toldOf (r .example))) table ≡ map (λ (r : Row). r .number) table
   -- 17 and 18 carry what 16 does
   pub skipped : toldOf (next gap (at 103 (Received z Buy))) ≡ told 17 (100 ∷ 102 ∷ 20 ∷ 101 ∷ 102 ∷ 0 ∷ [])
-  pub unread : auditedTold (auditRead ceiling (after gap .book) (after gap .rows)) ≡ told 18 (100 ∷ 102 ∷ 20 ∷ 101 ∷ 102 ∷ 0 ∷ [])
+  pub unread : auditedTold (auditRead ceiling (after gap .book) (after gap .memory)) ≡ told 18 (100 ∷ 102 ∷ 20 ∷ 101 ∷ 102 ∷ 0 ∷ [])
   -- 16 "with the last good sequence, the offending one and the reason": of 20 what was expected and what came, of 21 the last one and what came
   pub gap : toldOf gap ≡ told 16 (100 ∷ 102 ∷ 20 ∷ 101 ∷ 102 ∷ 0 ∷ [])
   pub behind : toldOf behind ≡ told 16 (100 ∷ 100 ∷ 21 ∷ 100 ∷ 100 ∷ 0 ∷ [])
@@ -253,14 +254,14 @@ pub record Stars : Type 0 where
   pub steps : map (λ (a : StepAnswer). stepTold a .number) steps ≡ 9 ∷ 9 ∷ 9 ∷ 512 ∷ 0 ∷ []
   pub reads : map (λ (t : Told). t .number) reads ≡ 7 ∷ 8 ∷ 15 ∷ 18 ∷ 50 ∷ 50 ∷ 51 ∷ 52 ∷ []
   -- C1: "E, open C buy 10 size 5 at 101: own estimate of C gives volume 2, from snapshot 2, observed 0, orders 1"
-  pub c1 : aheadFrom (after opened .book) (after opened .rows) (own (after opened .book) (after opened .rows) o) [] ≡ queues.Ahead (figure 101 2 1)
+  pub c1 : aheadFrom (after opened .book) (after opened .memory) (own (after opened .book) (after opened .memory) o) [] ≡ queues.Ahead (figure 101 2 1)
   -- C2: "E, open C buy 10 size 5 at 101 .. then match A size 2 at 102, taker Z: level 10 totals 5"
-  pub c2 : volume Buy 10 (lineOf (rowsOf (after matched .rows) (after matched .book .rows))) ≡ 5
+  pub c2 : volume Buy 10 (lineIn (after matched .memory) (after matched .book .rows)) ≡ 5
   -- "C has 0 ahead", by the estimate that was made before the match
-  pub c2-ahead : aheadFrom (after matched .book) (after matched .rows) (own (after opened .book) (after opened .rows) o) [] ≡ queues.Ahead (figure 102 0 0)
+  pub c2-ahead : aheadFrom (after matched .book) (after matched .memory) (own (after opened .book) (after opened .memory) o) [] ≡ queues.Ahead (figure 102 0 0)
   -- and the words: B and C move down, the freed row is zeroed, the word past it is untouched, the segment is good to 102
-  pub c2-rows : after matched .rows ≡ 0 ∷ 2 ∷ 12 ∷ 3 ∷ 1 ∷ 100 ∷ 0 ∷ 0 ∷ 0 ∷ 3 ∷ 10 ∷ 5 ∷ 2 ∷ 101 ∷ 0 ∷ 0 ∷ 0 ∷ 0 ∷ 0 ∷ 0 ∷ 0 ∷ 0 ∷ 0 ∷ 0 ∷ 7 ∷ []
+  pub c2-rows : after matched .memory .rows ≡ 0 ∷ 2 ∷ 12 ∷ 3 ∷ 1 ∷ 100 ∷ 0 ∷ 0 ∷ 0 ∷ 3 ∷ 10 ∷ 5 ∷ 2 ∷ 101 ∷ 0 ∷ 0 ∷ 0 ∷ 0 ∷ 0 ∷ 0 ∷ 0 ∷ 0 ∷ 0 ∷ 0 ∷ 7 ∷ []
   pub c2-list : after matched .segments ≡ segment 100 102 0 0 0 0 5 5 ∷ anyRecord ∷ []
   -- C3: "done canceled for Z at 101 changes no row, yet 101 is applied"
-  pub c3-rows : after canceled .rows ≡ rowsE
+  pub c3-rows : after canceled .memory .rows ≡ rowsE
   pub c3-applied : after canceled .book .status ≡ Valid 101

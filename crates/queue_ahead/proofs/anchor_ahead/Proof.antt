@@ -1,3 +1,4 @@
+-- By the estimate's kind; where it has a list, 8 passed says that the entries are there and few enough to count.
 use Prim.Native.Nat.{_*_}
 use mathlib.Core.Path.{_≡_, _∙_, ap}
 use mir.Syntax.{w64}

@@ -1,7 +1,8 @@
+-- Where `valid_book` answers a sequence, the rows are lent and sound: the own order is looked up, and its price fits an amount.
 use mathlib.Core.Bool.{false}
 use Rattle.book.specs.Memory.{memory, ordersOf}
 use Rattle.reconstructor_checks.proofs.Own.{sound, rows-ready}
-use Rattle.reconstructor_view.proofs.Readable.{turned, admitted}
+use Rattle.reconstructor_view.proofs.Readable.{refused-for, found-valid}
 use Rattle.queue.specs.Estimates.{ownViewed}
 use Rattle.queue.proofs.Ahead.{with-sound, price-most}
 use borrow.Author.Needs.{needs}
@@ -13,7 +14,7 @@ resting-requires c κs =
     let k-start = c .before .before .before .before .before in
     let a = k-start .args in
     let m = memory (a .rows .now) in
-    let v = admitted (a .top) (a .book) m false _ (c .before .before .valid-book .ensures) _ (c .enum-told .given .1) in
+    let v = found-valid (a .top) (a .book) m false _ (c .before .before .valid-book .ensures) _ (c .enum-told .given .1) in
     rows-ready (a .top) (a .book) m (k-start .pre) (v .2 .trusted)
 
 returns : tie.Need-returns
@@ -22,7 +23,7 @@ returns c =
     let k-enum-told = c .before .before .before in
     let k-valid-book = k-enum-told .before .before in
     let a = k-valid-book .before .before .before .args in
-    let v = admitted (a .top) (a .book) (memory (a .rows .now)) false _ (k-valid-book .valid-book .ensures) _ (k-enum-told .enum-told .given .1) in
+    let v = found-valid (a .top) (a .book) (memory (a .rows .now)) false _ (k-valid-book .valid-book .ensures) _ (k-enum-told .enum-told .given .1) in
     let w = rw (c .enum-told2 .given .1) at (c .before .before .resting .ensures) in
     rw (v .0, w)
 
@@ -34,7 +35,7 @@ returns-2 c =
     let k-enum-told = k-resting .before in
     let k-valid-book = k-enum-told .before .before in
     let a = k-valid-book .before .before .before .args in
-    let v = admitted (a .top) (a .book) (memory (a .rows .now)) false _ (k-valid-book .valid-book .ensures) _ (k-enum-told .enum-told .given .1) in
+    let v = found-valid (a .top) (a .book) (memory (a .rows .now)) false _ (k-valid-book .valid-book .ensures) _ (k-enum-told .enum-told .given .1) in
     let w = rw (k-o .o .given .1) at (k-resting .resting .ensures) in
     rw (v .0, w, ← c .before .place-unknown .ensures, c .if1 .taken)
 
@@ -46,7 +47,7 @@ own-estimate-requires c κs =
     let k-valid-book = k-enum-told .before .before in
     let a = k-valid-book .before .before .before .args in
     let m = memory (a .rows .now) in
-    let v = admitted (a .top) (a .book) m false _ (k-valid-book .valid-book .ensures) _ (k-enum-told .enum-told .given .1) in
+    let v = found-valid (a .top) (a .book) m false _ (k-valid-book .valid-book .ensures) _ (k-enum-told .enum-told .given .1) in
     let w = rw (k-o .o .given .1) at (k-resting .resting .ensures) in
     price-most _ (with-sound (a .order-id) (ordersOf m (a .book .rows)) _ (sound (a .book) m (v .2 .trusted .sound) .formed .sound) w)
 
@@ -55,7 +56,7 @@ unfolding ownViewed
 returns-3 c =
     let k-valid-book = c .before .before .before in
     let a = k-valid-book .before .before .before .args in
-    rw (turned (a .top) (a .book) (memory (a .rows .now)) false _ (k-valid-book .valid-book .ensures) _ (c .before .why .given .1))
+    rw (refused-for (a .top) (a .book) (memory (a .rows .now)) false _ (k-valid-book .valid-book .ensures) _ (c .before .why .given .1))
 
 returns-4 : tie.Need-returns-4
 unfolding ownViewed
@@ -65,7 +66,7 @@ returns-4 c =
     let k-enum-told = k-resting .before in
     let k-valid-book = k-enum-told .before .before in
     let a = k-valid-book .before .before .before .args in
-    let v = admitted (a .top) (a .book) (memory (a .rows .now)) false _ (k-valid-book .valid-book .ensures) _ (k-enum-told .enum-told .given .1) in
+    let v = found-valid (a .top) (a .book) (memory (a .rows .now)) false _ (k-valid-book .valid-book .ensures) _ (k-enum-told .enum-told .given .1) in
     let w = rw (k-o .o .given .1) at (k-resting .resting .ensures) in
     rw (v .0, w, ← c .before .before .place-unknown .ensures, c .before .if1 .left, c .own-estimate .ensures)
 

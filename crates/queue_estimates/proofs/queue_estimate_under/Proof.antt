@@ -1,3 +1,4 @@
+-- Where `valid_book` answers a sequence, the rows are lent. The orders counted are the entries, three words each; so the code's 7 is the definition's.
 use mathlib.Core.Path.{_≡_, sym}
 use mathlib.Core.Bool.{false}
 use native.Mathlib.Omega.{arith}
@@ -10,7 +11,7 @@ use Rattle.book_queue.specs.declared.EntryForm.the-variants.{Ahead}
 use Rattle.book_queue.specs.Queue.{rowsAt, entriesWords}
 use Rattle.book_queue.proofs.Orders.{at-most, width-entries}
 use Rattle.reconstructor_checks.proofs.Own.{rows-ready}
-use Rattle.reconstructor_view.proofs.Readable.{turned, admitted}
+use Rattle.reconstructor_view.proofs.Readable.{refused-for, found-valid}
 use Rattle.queue.specs.Estimates.{estimated}
 use borrow.Author.Needs.{needs}
 use Rattle.queue_estimates.proofs.queue_estimate_under.Statement.{statement}
@@ -22,7 +23,7 @@ order-count-requires c κs =
     let k-start = k-valid-book .before .before .before .before in
     let a = k-start .args in
     let m = memory (a .rows .now) in
-    let v = admitted (a .top) (a .book) m false _ (k-valid-book .valid-book .ensures) _ (c .before .last-seq .given .1) in
+    let v = found-valid (a .top) (a .book) m false _ (k-valid-book .valid-book .ensures) _ (c .before .last-seq .given .1) in
     rows-ready (a .top) (a .book) m (k-start .pre) (v .2 .trusted)
 
 mul-if1 : tie.Need-mul-if1
@@ -32,7 +33,7 @@ mul-if1 c =
     let k-start = k-size-of .before .before .before in
     let a = k-start .args in
     let m = memory (a .rows .now) in
-    let v = admitted (a .top) (a .book) m false _ (k-valid-book .valid-book .ensures) _ (c .before .before .last-seq .given .1) in
+    let v = found-valid (a .top) (a .book) m false _ (k-valid-book .valid-book .ensures) _ (c .before .before .last-seq .given .1) in
     let l = rows-ready (a .top) (a .book) m (k-start .pre) (v .2 .trusted) in
     record { fits = omega (arith, c .order-count .ensures, at-most (a .side) (k-size-of .size-of .result) (ordersOf m (a .book .rows)), length-rows (a .rows .now) 0 (a .book .rows), l .few) }
 
@@ -44,7 +45,7 @@ returns c =
     let k-size-of = k-valid-book .before in
     let k-start = k-size-of .before .before .before in
     let a = k-start .args in
-    let v = admitted (a .top) (a .book) (memory (a .rows .now)) false _ (k-valid-book .valid-book .ensures) _ (k-last-seq .last-seq .given .1) in
+    let v = found-valid (a .top) (a .book) (memory (a .rows .now)) false _ (k-valid-book .valid-book .ensures) _ (k-last-seq .last-seq .given .1) in
     let os = rowsAt (a .side) (k-size-of .size-of .result) (ordersOf (memory (a .rows .now)) (a .book .rows)) in
     let e : length os ≡ c .before .order-count .result = sym (c .before .order-count .ensures) in
     let z = sized (a .price) (k-size-of .size-of .ensures) (k-start .fits .price) in
@@ -58,7 +59,7 @@ write-orders-requires c κs =
     let k-start = k-size-of .before .before .before in
     let a = k-start .args in
     let m = memory (a .rows .now) in
-    let v = admitted (a .top) (a .book) m false _ (k-valid-book .valid-book .ensures) _ (k-last-seq .last-seq .given .1) in
+    let v = found-valid (a .top) (a .book) m false _ (k-valid-book .valid-book .ensures) _ (k-last-seq .last-seq .given .1) in
     let os = rowsAt (a .side) (k-size-of .size-of .result) (ordersOf m (a .book .rows)) in
     (rows-ready (a .top) (a .book) m (k-start .pre) (v .2 .trusted), omega (arith, width-entries Ahead os, c .before .before .order-count .ensures, c .before .if1 .left))
 
@@ -67,7 +68,7 @@ unfolding estimated
 returns-2 c =
     let k-valid-book = c .before .before .before in
     let a = k-valid-book .before .before .before .before .args in
-    rw (turned (a .top) (a .book) (memory (a .rows .now)) false _ (k-valid-book .valid-book .ensures) _ (c .before .why .given .1))
+    rw (refused-for (a .top) (a .book) (memory (a .rows .now)) false _ (k-valid-book .valid-book .ensures) _ (c .before .why .given .1))
 
 returns-3 : tie.Need-returns-3
 unfolding estimated
@@ -80,7 +81,7 @@ returns-3 c =
     let k-size-of = k-valid-book .before in
     let k-start = k-size-of .before .before .before in
     let a = k-start .args in
-    let v = admitted (a .top) (a .book) (memory (a .rows .now)) false _ (k-valid-book .valid-book .ensures) _ (k-last-seq .last-seq .given .1) in
+    let v = found-valid (a .top) (a .book) (memory (a .rows .now)) false _ (k-valid-book .valid-book .ensures) _ (k-last-seq .last-seq .given .1) in
     let os = rowsAt (a .side) (k-size-of .size-of .result) (ordersOf (memory (a .rows .now)) (a .book .rows)) in
     let e : length os ≡ k-order-count .order-count .result = sym (k-order-count .order-count .ensures) in
     let z = sized (a .price) (k-size-of .size-of .ensures) (k-start .fits .price) in

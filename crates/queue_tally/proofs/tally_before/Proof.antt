@@ -1,3 +1,4 @@
+-- From the last row to the first: the tally of the rows behind, with one row more, is `before` of one row more; each sum stays small.
 use Prim.Native.Nat.{_≤_, _-_}
 use mathlib.Core.Path.{_≡_, _∙_, sym, ap}
 use native.Mathlib.Nat.{sub-zero}

@@ -1,3 +1,4 @@
+-- From the last entry to the first: the tally of the entries behind, with one entry more, is that of one entry more; each sum stays small.
 use Prim.Native.Nat.{_≤_, _-_}
 use mathlib.Core.Path.{_≡_, _∙_, sym, ap}
 use native.Mathlib.Nat.{sub-zero}

@@ -1,9 +1,10 @@
+-- Where `valid_book` answers a sequence, 1, 2 and 3 are passed: the rows are lent and the scratch is long enough for `show_queue`.
 use mathlib.Core.Path.{ap}
 use borrow.Author.Tests.{ltb-false}
 use Rattle.message.proofs.Signed.{sized}
 use Rattle.book.specs.Memory.{memory}
 use Rattle.reconstructor_checks.proofs.Own.{rows-ready}
-use Rattle.reconstructor_view.proofs.Readable.{turned, admitted}
+use Rattle.reconstructor_view.proofs.Readable.{refused-for, found-valid}
 use Rattle.reconstructor_reads.specs.declared.LevelAnswer.the-variants.{Shown}
 use Rattle.reconstructor_reads.specs.LevelReads.{Shows, levelRead, leaves, scratchShort}
 use borrow.Author.Needs.{needs}
@@ -16,7 +17,7 @@ show-queue-requires c κs =
     let k-start = k-valid-book .before .before .before .before .before .before in
     let a = k-start .args in
     let m = memory (a .rows .now) in
-    let v = admitted (a .top) (a .book) m (scratchShort (a .book) (a .scratch .now)) _ (k-valid-book .valid-book .ensures) _ (c .before .before .enum-told .given .1) in
+    let v = found-valid (a .top) (a .book) m (scratchShort (a .book) (a .scratch .now)) _ (k-valid-book .valid-book .ensures) _ (c .before .before .enum-told .given .1) in
     (rows-ready (a .top) (a .book) m (k-start .pre) (v .2 .trusted), ltb-false _ _ (v .2 .room))
 
 returns : tie.Need-returns
@@ -24,7 +25,7 @@ unfolding levelRead
 returns c =
     let k-valid-book = c .before .before .before in
     let a = k-valid-book .before .before .before .before .before .before .args in
-    rw (turned (a .top) (a .book) (memory (a .rows .now)) (scratchShort (a .book) (a .scratch .now)) _ (k-valid-book .valid-book .ensures) _ (c .before .why .given .1))
+    rw (refused-for (a .top) (a .book) (memory (a .rows .now)) (scratchShort (a .book) (a .scratch .now)) _ (k-valid-book .valid-book .ensures) _ (c .before .why .given .1))
 
 returns-2 : tie.Need-returns-2
 unfolding levelRead
@@ -35,7 +36,7 @@ returns-2 c =
     let k-size-of = k-valid-book .before in
     let k-start = k-size-of .before .before .before .before .before in
     let a = k-start .args in
-    let v = admitted (a .top) (a .book) (memory (a .rows .now)) (scratchShort (a .book) (a .scratch .now)) _ (k-valid-book .valid-book .ensures) _ (k-enum-told .enum-told .given .1) in
+    let v = found-valid (a .top) (a .book) (memory (a .rows .now)) (scratchShort (a .book) (a .scratch .now)) _ (k-valid-book .valid-book .ensures) _ (k-enum-told .enum-told .given .1) in
     let z = sized (a .price) (k-size-of .size-of .ensures) (k-start .fits .price) in
     rw (v .0, ← z) (ap (λ (w : Shows). leaves (Shown (w .answer)) (w .scratch) (w .out)) (k-show-queue .show-queue .ensures))
 

@@ -1,8 +1,9 @@
+-- The count is the number of entries, and each has as many words as the code asks room for; so the code's 7 is the definition's.
 use mathlib.Core.Path.{_≡_, sym}
 use native.Mathlib.Omega.{arith}
 use lib.ListN.{length}
 use borrow.Author.Tests.{lt-ltb, le-ltb}
-use Rattle.book.specs.Rows.{rowsOf}
+use Rattle.book.specs.Memory.{memory, ordersOf}
 use Rattle.book.proofs.Rows.{length-rows}
 use Rattle.book_queue.specs.declared.EntryForm.the-variants.{Queue}
 use Rattle.book_queue.specs.Queue.{rowsAt, entriesWords}
@@ -15,18 +16,24 @@ use Rattle.reconstructor_reads.proofs.show_queue.Tie as tie
 mul-if1 : tie.Need-mul-if1
 mul-if1 c =
     let k-start = c .before .before .before .before in
-    record { fits = omega (arith, c .order-count .ensures, at-most (k-start .args .side) (k-start .args .price) (rowsOf (k-start .args .rows .now) (k-start .args .n)), length-rows (k-start .args .rows .now) 0 (k-start .args .n), k-start .pre .0 .few) }
+    let a = k-start .args in
+    let m = at-most (a .side) (a .price) (ordersOf (memory (a .rows .now)) (a .n)) in
+    record { fits = omega (arith, c .order-count .ensures, m, length-rows (a .rows .now) 0 (a .n), k-start .pre .0 .few) }
 
 returns : tie.Need-returns
 unfolding shown
 returns c =
-    let k-start = c .before .before .before .before .before in
-    let e : length (rowsAt (k-start .args .side) (k-start .args .price) (rowsOf (k-start .args .rows .now) (k-start .args .n))) ≡ c .before .order-count .result = sym (c .before .order-count .ensures) in rw (lt-ltb (length (k-start .args .out .now)) (length (entriesWords Queue (rowsAt (k-start .args .side) (k-start .args .price) (rowsOf (k-start .args .rows .now) (k-start .args .n))))) (omega (arith, e, width-entries Queue (rowsAt (k-start .args .side) (k-start .args .price) (rowsOf (k-start .args .rows .now) (k-start .args .n))), c .if1 .taken)))
+    let a = c .before .before .before .before .before .args in
+    let os = rowsAt (a .side) (a .price) (ordersOf (memory (a .rows .now)) (a .n)) in
+    let e : length os ≡ c .before .order-count .result = sym (c .before .order-count .ensures) in
+    rw (lt-ltb (length (a .out .now)) (length (entriesWords Queue os)) (omega (arith, e, width-entries Queue os, c .if1 .taken)))
 
 write-orders-requires : tie.Need-write-orders-requires
 write-orders-requires c κs =
     let k-start = c .before .before .before .before .before .before in
-    (k-start .pre .0, omega (arith, width-entries Queue (rowsAt (k-start .args .side) (k-start .args .price) (rowsOf (k-start .args .rows .now) (k-start .args .n))), c .before .before .order-count .ensures, c .before .if1 .left))
+    let a = k-start .args in
+    let os = rowsAt (a .side) (a .price) (ordersOf (memory (a .rows .now)) (a .n)) in
+    (k-start .pre .0, omega (arith, width-entries Queue os, c .before .before .order-count .ensures, c .before .if1 .left))
 
 returns-2 : tie.Need-returns-2
 unfolding shown
@@ -34,8 +41,11 @@ returns-2 c =
     let k-write-orders = c .before .before .before .before .before .before in
     let k-if1 = k-write-orders .before .before in
     let k-order-count = k-if1 .before in
-    let k-start = k-order-count .before .before .before .before in
-    let e : length (rowsAt (k-start .args .side) (k-start .args .price) (rowsOf (k-start .args .rows .now) (k-start .args .n))) ≡ k-order-count .order-count .result = sym (k-order-count .order-count .ensures) in rw (le-ltb (length (k-start .args .out .now)) (length (entriesWords Queue (rowsAt (k-start .args .side) (k-start .args .price) (rowsOf (k-start .args .rows .now) (k-start .args .n))))) (omega (arith, e, width-entries Queue (rowsAt (k-start .args .side) (k-start .args .price) (rowsOf (k-start .args .rows .now) (k-start .args .n))), k-if1 .if1 .left)), c .before .before .clear .ensures, k-write-orders .write-orders .ensures, e)
+    let a = k-order-count .before .before .before .before .args in
+    let os = rowsAt (a .side) (a .price) (ordersOf (memory (a .rows .now)) (a .n)) in
+    let e : length os ≡ k-order-count .order-count .result = sym (k-order-count .order-count .ensures) in
+    let f = le-ltb (length (a .out .now)) (length (entriesWords Queue os)) (omega (arith, e, width-entries Queue os, k-if1 .if1 .left)) in
+    rw (f, c .before .before .clear .ensures, k-write-orders .write-orders .ensures, e)
 
 pub show-queue-spec : {M : Type 1} → statement M
 show-queue-spec =

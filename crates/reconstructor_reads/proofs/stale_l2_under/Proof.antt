@@ -1,3 +1,4 @@
+-- Where `read_checks` passes, the rows are lent and sound, and the scratch is long enough for `show_levels`; the rest goes by the status.
 use mathlib.Core.Path.{ap}
 use native.Mathlib.Omega.{arith}
 use borrow.Author.Tests.{ltb-false}

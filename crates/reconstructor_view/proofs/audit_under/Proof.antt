@@ -1,7 +1,7 @@
 use mathlib.Core.Bool.{false}
 use Rattle.book.specs.Memory.{memory}
 use Rattle.reconstructor_view.specs.ValueReads.{auditedOf}
-use Rattle.reconstructor_view.proofs.Readable.{turned, admitted, audit-ok}
+use Rattle.reconstructor_view.proofs.Readable.{refused-for, found-valid, audit-ok}
 use borrow.Author.Needs.{needs}
 use Rattle.reconstructor_view.proofs.audit_under.Statement.{statement}
 use Rattle.reconstructor_view.proofs.audit_under.Tie as tie
@@ -12,14 +12,14 @@ returns c =
     let k-valid-book = c .before .before .before in
     let a = k-valid-book .before .before .args in
     let m = memory (a .rows .now) in
-    rw (turned (a .top) (a .book) m false _ (k-valid-book .valid-book .ensures) _ (c .before .why .given .1))
+    rw (refused-for (a .top) (a .book) m false _ (k-valid-book .valid-book .ensures) _ (c .before .why .given .1))
 
 returns-2 : tie.Need-returns-2
 unfolding auditedOf
 returns-2 c =
     let a = c .before .before .before .before .args in
     let m = memory (a .rows .now) in
-    let v = admitted (a .top) (a .book) m false _ (c .before .before .valid-book .ensures) _ (c .enum-told .given .1) in
+    let v = found-valid (a .top) (a .book) m false _ (c .before .before .valid-book .ensures) _ (c .enum-told .given .1) in
     rw (v .0, audit-ok (a .top) (a .book) m false (v .2))
 
 pub audit-under-spec : {M : Type 1} → statement M

@@ -1,8 +1,9 @@
+-- Where `valid_book` answers a sequence, 1, 2 and 3 are passed: the rows are lent, and the best prices found are the line's.
 use mathlib.Core.Bool.{false}
 use Rattle.book.specs.Memory.{memory}
 use Rattle.reconstructor_checks.proofs.Own.{rows-ready}
 use Rattle.reconstructor_view.specs.ValueReads.{bestOf}
-use Rattle.reconstructor_view.proofs.Readable.{turned, admitted}
+use Rattle.reconstructor_view.proofs.Readable.{refused-for, found-valid}
 use borrow.Author.Needs.{needs}
 use Rattle.reconstructor_view.proofs.best_under.Statement.{statement}
 use Rattle.reconstructor_view.proofs.best_under.Tie as tie
@@ -12,7 +13,7 @@ best-bid-requires c κs =
     let k-start = c .before .before .before .before in
     let a = k-start .args in
     let m = memory (a .rows .now) in
-    let v = admitted (a .top) (a .book) m false _ (c .before .before .valid-book .ensures) _ (c .enum-told .given .1) in
+    let v = found-valid (a .top) (a .book) m false _ (c .before .before .valid-book .ensures) _ (c .enum-told .given .1) in
     rows-ready (a .top) (a .book) m (k-start .pre) (v .2 .trusted)
 
 best-ask-requires : tie.Need-best-ask-requires
@@ -21,7 +22,7 @@ best-ask-requires c κs =
     let k-start = k-valid-book .before .before in
     let a = k-start .args in
     let m = memory (a .rows .now) in
-    let v = admitted (a .top) (a .book) m false _ (k-valid-book .valid-book .ensures) _ (c .before .enum-told .given .1) in
+    let v = found-valid (a .top) (a .book) m false _ (k-valid-book .valid-book .ensures) _ (c .before .enum-told .given .1) in
     rows-ready (a .top) (a .book) m (k-start .pre) (v .2 .trusted)
 
 returns : tie.Need-returns
@@ -29,14 +30,14 @@ unfolding bestOf
 returns c =
     let k-valid-book = c .before .before .before in
     let a = k-valid-book .before .before .args in
-    rw (turned (a .top) (a .book) (memory (a .rows .now)) false _ (k-valid-book .valid-book .ensures) _ (c .before .why .given .1))
+    rw (refused-for (a .top) (a .book) (memory (a .rows .now)) false _ (k-valid-book .valid-book .ensures) _ (c .before .why .given .1))
 
 returns-2 : tie.Need-returns-2
 unfolding bestOf
 returns-2 c =
     let k-valid-book = c .before .before .before .before in
     let a = k-valid-book .before .before .args in
-    let v = admitted (a .top) (a .book) (memory (a .rows .now)) false _ (k-valid-book .valid-book .ensures) _ (c .before .before .enum-told .given .1) in
+    let v = found-valid (a .top) (a .book) (memory (a .rows .now)) false _ (k-valid-book .valid-book .ensures) _ (c .before .before .enum-told .given .1) in
     rw (v .0, c .before .best-bid .ensures, c .best-ask .ensures)
 
 pub best-under-spec : {M : Type 1} → statement M

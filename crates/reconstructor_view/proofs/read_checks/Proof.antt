@@ -1,3 +1,4 @@
+-- Each test of the code is one of the definition, in its order; 1 passed bounds the limits, 2 passed lends the rows that 3 looks at.
 use mathlib.Core.Path.{_∙_, sym, refl}
 use native.Mathlib.Omega.{arith}
 use Rattle.laws.proofs.Bools.{or-no}
