@@ -3,16 +3,16 @@ use Prim.Native.Nat.{ℕ}
 use mathlib.Core.Bool.{Bool, false}
 use borrow.Author.Tests.{eq-eqb}
 use lib.ListN.{length}
 use Rattle.host_calls.proofs.Blocks.{less}
 use Rattle.book.specs.Memory.{memory, extentOf}
 use Rattle.reconstructor_state.specs.State.{ceiling}
 use Rattle.host_boundary.specs.Boundary.{boundary}
 use Rattle.host_boundary.proofs.Passed.{passed, turned-away, goes-on}
 use Rattle.host_calls.specs.Calls.{called, bootstrapCall}
 use Rattle.host_calls.proofs.Works.{boot-leaves}
 use borrow.Author.Needs.{needs}
-use Rattle.host_calls.proofs.bootstrap.Statement.{statement}
-use Rattle.host_calls.proofs.bootstrap.Tie as tie
+use Rattle.host_bootstrap.proofs.bootstrap.Statement.{statement}
+use Rattle.host_bootstrap.proofs.bootstrap.Tie as tie
 
 returns : tie.Need-returns
 unfolding bootstrapCall

@@ -4,17 +4,17 @@ use mathlib.Core.Bool.{Bool, _||_}
 use borrow.Author.Tests.{eq-eqb}
 use lib.Dec.{ltb}
 use lib.ListN.{length}
 use Rattle.host_calls.proofs.Blocks.{less}
 use Rattle.book.specs.Memory.{memory, extentOf}
 use Rattle.reconstructor_state.specs.State.{ceiling}
 use Rattle.host_boundary.specs.Boundary.{noMessage, noHandshake, boundary}
 use Rattle.host_boundary.proofs.Passed.{passed, turned-away, goes-on}
 use Rattle.host_words.proofs.Lent.{lent-two}
 use Rattle.host_calls.specs.Calls.{stepCalled, stepCall}
 use Rattle.host_calls.proofs.Works.{step-leaves}
 use borrow.Author.Needs.{needs}
-use Rattle.host_calls.proofs.step.Statement.{statement}
-use Rattle.host_calls.proofs.step.Tie as tie
+use Rattle.host_step.proofs.step.Statement.{statement}
+use Rattle.host_step.proofs.step.Tie as tie
 
 returns : tie.Need-returns
 unfolding stepCall

@@ -3,17 +3,17 @@ use Prim.Native.Nat.{ℕ}
 use mathlib.Core.Bool.{Bool}
 use lib.Dec.{ltb}
 use lib.ListN.{length}
 use Rattle.host_calls.proofs.Blocks.{less}
 use borrow.Author.Tests.{ltb-false, eq-eqb}
 use Rattle.book.specs.Memory.{memory, extentOf}
 use Rattle.reconstructor_state.specs.State.{ceiling}
 use Rattle.host_boundary.specs.Boundary.{noMessage, boundary}
 use Rattle.host_boundary.proofs.Passed.{passed, turned-away, goes-on}
 use Rattle.host_calls.specs.Calls.{called, applyCall}
 use Rattle.host_calls.proofs.Works.{apply-leaves}
 use borrow.Author.Needs.{needs}
-use Rattle.host_calls.proofs.apply.Statement.{statement}
-use Rattle.host_calls.proofs.apply.Tie as tie
+use Rattle.host_apply.proofs.apply.Statement.{statement}
+use Rattle.host_apply.proofs.apply.Tie as tie
 
 returns : tie.Need-returns
 unfolding applyCall
