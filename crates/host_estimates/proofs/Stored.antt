@@ -11,15 +11,15 @@ use lib.ListN.{length}
 use lib.IntN.{ℤ}
 use Rattle.message.specs.declared.L3Side.{L3Side}
 use Rattle.message.specs.Amounts.{natOf}
-use Rattle.book.specs.Rows.{ceiling, rowsOf}
+use Rattle.book.specs.Memory.{Memory, ordersOf}
 use Rattle.book_levels.specs.Levels.{written}
 use Rattle.book_queue.specs.declared.EntryForm.the-variants.{Ahead}
 use Rattle.book_queue.specs.Queue.{rowsAt, entriesWords}
 use Rattle.reconstructor_state.specs.declared.BookReconstructor.{BookReconstructor}
-use Rattle.reconstructor_state.specs.State.{lastOf}
+use Rattle.reconstructor_state.specs.State.{ceiling, lastOf}
 use Rattle.reconstructor_view.specs.declared.ViewError.{ViewError}
-use Rattle.reconstructor_view.specs.Numbers.{viewedTold}
-use Rattle.reconstructor_view.specs.View.{viewed, bookView}
+use Rattle.reconstructor_view.specs.Numbers.{sequenceTold}
+use Rattle.reconstructor_view.specs.ValueReads.{sequenceOf, viewRefusalOf}
 use Rattle.queue.specs.declared.QueueEstimate.{QueueEstimate}
 use Rattle.queue.specs.declared.QueueError.the-variants.{OutputTooSmall}
 use Rattle.queue.specs.declared.EstimateAnswer.{EstimateAnswer}
@@ -42,15 +42,15 @@ module _ (l : List ℕ) (q : QueueEstimate) (words : List ℕ) where
   listed-lastly true = refl
   listed-lastly false = refl
 
-  estimate-lastly : (o : Option ViewError) (last : ℕ) → lastly (viewedTold (viewed o last) .number) ≡ lastly (estimateTold (estimated o (listed q words l) l .answer) .number)
-  unfolding viewed estimated
+  estimate-lastly : (o : Option ViewError) (last : ℕ) → lastly (sequenceTold (sequenceOf o last) .number) ≡ lastly (estimateTold (estimated o (listed q words l) l .answer) .number)
+  unfolding sequenceOf estimated
   estimate-lastly (some x) last = refl
   estimate-lastly none last = listed-lastly (ltb (length l) (length words))
 
 -- without words for the estimate
-pub estimate-unwritten : (k : ℕ) (l e : List ℕ) (b : BookReconstructor) (ws : List ℕ) (s : L3Side) (z : ℤ) → length e < 8
-    → k ≡ lastly (viewedTold (viewed (bookView ceiling b ws false) (lastOf (b .status))) .number) → estimateCalled k l e ≡ afterEstimate l e (queueEstimate ceiling b ws s z l)
-estimate-unwritten k l e b ws s z h q =
+pub estimate-unwritten : (k : ℕ) (l e : List ℕ) (b : BookReconstructor) (mem : Memory) (s : L3Side) (z : ℤ) → length e < 8
+    → k ≡ lastly (sequenceTold (sequenceOf (viewRefusalOf ceiling b mem false) (lastOf (b .status))) .number) → estimateCalled k l e ≡ afterEstimate l e (queueEstimate ceiling b mem s z l)
+estimate-unwritten k l e b mem s z h q =
     rw (lt-ltb (length e) 8 h, q)
     (ap (λ (n : ℕ). estimateCalled n l e)
-    (estimate-lastly l (hypothetical b s z (rowsOf ws (b .rows))) (entriesWords Ahead (rowsAt s (natOf z) (rowsOf ws (b .rows)))) (bookView ceiling b ws false) (lastOf (b .status))))
+    (estimate-lastly l (hypothetical b s z (ordersOf mem (b .rows))) (entriesWords Ahead (rowsAt s (natOf z) (ordersOf mem (b .rows)))) (viewRefusalOf ceiling b mem false) (lastOf (b .status))))

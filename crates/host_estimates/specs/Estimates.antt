@@ -7,7 +7,8 @@ use lib.ListN.{length}
 use mir.Syntax.{w64}
 use mir.Val.{toZ}
 use Rattle.piece.specs.Piece.{sideOf}
-use Rattle.book.specs.Rows.{ceiling}
+use Rattle.reconstructor_state.specs.State.{ceiling}
+use Rattle.book.specs.Memory.{memory, extentOf}
 use Rattle.host_words.specs.Block.{bookOf}
 use Rattle.queue.specs.Numbers.{estimateTold, aheadTold}
 use Rattle.queue.specs.Estimates.{EstimateParts, queueEstimate, queueEstimateOwn, volumeAhead}
@@ -31,15 +32,15 @@ afterEstimate l e p =
 
 unfoldable pub estimateCall : List ℕ → List ℕ → ℕ → ℕ → List ℕ → List ℕ → EstimateCall
 estimateCall st ws side price l e =
-    unlessTurned (boundary st (length ws) false false (noBit side)) (λ (k : ℕ). estimateCalled k l e)
-    (afterEstimate l e (queueEstimate ceiling (bookOf st) ws (sideOf side) (toZ w64 price) l))
+    unlessTurned (boundary st (extentOf (memory ws)) false false (noBit side)) (λ (k : ℕ). estimateCalled k l e)
+    (afterEstimate l e (queueEstimate ceiling (bookOf st) (memory ws) (sideOf side) (toZ w64 price) l))
 
 unfoldable pub ownCall : List ℕ → List ℕ → ℕ → ℕ → List ℕ → Answered
 ownCall st ws high low e =
-    unlessTurned (boundary st (length ws) false false false) (λ (k : ℕ). answered k e)
-    (toldIn (estimateTold (queueEstimateOwn ceiling (bookOf st) ws (record { high = high; low = low }))) e)
+    unlessTurned (boundary st (extentOf (memory ws)) false false false) (λ (k : ℕ). answered k e)
+    (toldIn (estimateTold (queueEstimateOwn ceiling (bookOf st) (memory ws) (record { high = high; low = low }))) e)
 
 unfoldable pub aheadCall : List ℕ → List ℕ → List ℕ → List ℕ → List ℕ → Answered
 aheadCall st ws e l out =
-    unlessTurned (boundary st (length ws) false (ltb (length e) 8) (noEstimate e)) (λ (k : ℕ). answered k out)
-    (toldIn (aheadTold (volumeAhead ceiling (bookOf st) ws (estimateOf e) l)) out)
+    unlessTurned (boundary st (extentOf (memory ws)) false (ltb (length e) 8) (noEstimate e)) (λ (k : ℕ). answered k out)
+    (toldIn (aheadTold (volumeAhead ceiling (bookOf st) (memory ws) (estimateOf e) l)) out)

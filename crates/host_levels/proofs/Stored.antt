@@ -10,14 +10,14 @@ use Rattle.reconstructor_answers.specs.declared.StateError.{StateError}
 use Rattle.reconstructor_state.specs.declared.Status.{Status}
 use Rattle.reconstructor_state.specs.declared.Status.the-variants as statuses
 use Rattle.reconstructor_view.specs.declared.ViewError.{ViewError}
-use Rattle.reconstructor_view.specs.Numbers.{viewedTold}
-use Rattle.reconstructor_view.specs.View.{viewed}
+use Rattle.reconstructor_view.specs.Numbers.{sequenceTold}
+use Rattle.reconstructor_view.specs.ValueReads.{sequenceOf}
 use Rattle.reconstructor_reads.specs.declared.Shown.{Shown}
 use Rattle.reconstructor_reads.specs.declared.Shown.the-variants.{Entries, OutputTooSmall}
 use Rattle.reconstructor_reads.specs.declared.LevelAnswer.{LevelAnswer}
 use Rattle.reconstructor_reads.specs.declared.StaleAnswer.{StaleAnswer}
 use Rattle.reconstructor_reads.specs.Numbers.{shownTold, levelTold, staleTold}
-use Rattle.reconstructor_reads.specs.Reads.{Shows, shows, LevelRead, leaves, levelRead, StaleRead, leavesStale, staleRead}
+use Rattle.reconstructor_reads.specs.LevelReads.{Shows, shows, LevelRead, leaves, levelRead, StaleRead, leavesStale, staleRead}
 use Rattle.host_reads.specs.Answers.{Answered, answered, toldIn, lastly}
 use Rattle.host_levels.specs.Levels.{levelCalled, afterLevel, afterStale}
 
@@ -42,12 +42,12 @@ seven (Entries n) = refl
 seven OutputTooSmall = refl
 
 module _ (k : ℕ) (sc out count : List ℕ) (s : Shows) (h : length count < 1) where
-  level-lastly : (o : Option ViewError) (last : ℕ) → lastly (viewedTold (viewed o last) .number) ≡ lastly (levelTold (levelRead o s sc out .answer) .number)
-  unfolding viewed levelRead
+  level-lastly : (o : Option ViewError) (last : ℕ) → lastly (sequenceTold (sequenceOf o last) .number) ≡ lastly (levelTold (levelRead o s sc out .answer) .number)
+  unfolding sequenceOf levelRead
   level-lastly (some e) last = refl
   level-lastly none last = seven (s .answer)
 
-  pub level-unwritten : (o : Option ViewError) (last : ℕ) → k ≡ lastly (viewedTold (viewed o last) .number)
+  pub level-unwritten : (o : Option ViewError) (last : ℕ) → k ≡ lastly (sequenceTold (sequenceOf o last) .number)
       → levelCalled k sc out count ≡ afterLevel sc out count (levelRead o s sc out)
   level-unwritten o last e = rw (lt-ltb (length count) 1 h, e) (ap (λ (n : ℕ). levelCalled n sc out count) (level-lastly o last))
 

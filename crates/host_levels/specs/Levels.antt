@@ -9,10 +9,11 @@ use mir.Syntax.{w64}
 use mir.Val.{toZ}
 use Rattle.message.specs.Told.{Told}
 use Rattle.piece.specs.Piece.{sideOf}
-use Rattle.book.specs.Rows.{ceiling}
+use Rattle.reconstructor_state.specs.State.{ceiling}
+use Rattle.book.specs.Memory.{memory, extentOf}
 use Rattle.host_words.specs.Block.{bookOf}
 use Rattle.reconstructor_reads.specs.Numbers.{levelTold, staleTold}
-use Rattle.reconstructor_reads.specs.Reads.{LevelRead, StaleRead, levelQueue, priorityProfile, l2, staleL2}
+use Rattle.reconstructor_reads.specs.LevelReads.{LevelRead, StaleRead, levelQueue, priorityProfile, l2, staleL2}
 use Rattle.host_boundary.specs.Boundary.{noBit, boundary, unlessTurned}
 use Rattle.host_reads.specs.Answers.{toldIn, lastly}
 
@@ -39,24 +40,24 @@ afterStale sc out count r = counted (staleTold (r .answer)) (r .scratch) (r .out
 
 -- what the words are turned away for
 abbrev pub levelBoundary : List ℕ → List ℕ → List ℕ → ℕ → ℕ
-levelBoundary st ws sc side = boundary st (length ws) (ltb (length sc) (getD st 3 0)) false (noBit side)
+levelBoundary st ws sc side = boundary st (extentOf (memory ws)) (ltb (length sc) (getD st 3 0)) false (noBit side)
 
 unfoldable pub queueCall : List ℕ → List ℕ → List ℕ → ℕ → ℕ → List ℕ → List ℕ → LevelCall
 queueCall st ws sc side price out count =
     unlessTurned (levelBoundary st ws sc side) (λ (k : ℕ). levelCalled k sc out count)
-    (afterLevel sc out count (levelQueue ceiling (bookOf st) ws sc (sideOf side) (toZ w64 price) out))
+    (afterLevel sc out count (levelQueue ceiling (bookOf st) (memory ws) sc (sideOf side) (toZ w64 price) out))
 
 unfoldable pub profileCall : List ℕ → List ℕ → List ℕ → ℕ → List ℕ → List ℕ → LevelCall
 profileCall st ws sc side out count =
     unlessTurned (levelBoundary st ws sc side) (λ (k : ℕ). levelCalled k sc out count)
-    (afterLevel sc out count (priorityProfile ceiling (bookOf st) ws sc (sideOf side) out))
+    (afterLevel sc out count (priorityProfile ceiling (bookOf st) (memory ws) sc (sideOf side) out))
 
 unfoldable pub l2Call : List ℕ → List ℕ → List ℕ → ℕ → List ℕ → List ℕ → LevelCall
 l2Call st ws sc side out count =
     unlessTurned (levelBoundary st ws sc side) (λ (k : ℕ). levelCalled k sc out count)
-    (afterLevel sc out count (l2 ceiling (bookOf st) ws sc (sideOf side) out))
+    (afterLevel sc out count (l2 ceiling (bookOf st) (memory ws) sc (sideOf side) out))
 
 unfoldable pub staleCall : List ℕ → List ℕ → List ℕ → ℕ → List ℕ → List ℕ → LevelCall
 staleCall st ws sc side out count =
     unlessTurned (levelBoundary st ws sc side) (λ (k : ℕ). levelCalled k sc out count)
-    (afterStale sc out count (staleL2 ceiling (bookOf st) ws sc (sideOf side) out))
+    (afterStale sc out count (staleL2 ceiling (bookOf st) (memory ws) sc (sideOf side) out))

@@ -11,23 +11,25 @@ use host_words::signed;
 use reconstructor_checks::Checked;
 use reconstructor_state::BookReconstructor;
 use reconstructor_state::Status;
+use reconstructor_state::VenueRules;
 ghost use mathlib.Core.Path.{_≡_};
 ghost use mathlib.Core.Bool.{false};
 ghost use mathlib.Core.List.{[]};
 ghost use lib.Dec.{ltb};
 ghost use lib.ListN.{getD};
-ghost use Rattle.book.specs.Rows.{ceiling};
-ghost use Rattle.reconstructor_view.specs.View.{stateRead};
+ghost use Rattle.book.specs.Memory.{memory};
+ghost use Rattle.reconstructor_state.specs.State.{ceiling};
+ghost use Rattle.reconstructor_view.specs.ValueReads.{readRefusalOf};
 ghost use Rattle.reconstructor_reads.specs.declared.Shown.the-variants.{OutputTooSmall};
 ghost use Rattle.reconstructor_reads.specs.Numbers.{staleTold};
-ghost use Rattle.reconstructor_reads.specs.Reads.{shows, staleRead};
+ghost use Rattle.reconstructor_reads.specs.LevelReads.{shows, staleRead};
 ghost use Rattle.host_boundary.specs.Boundary.{noBit, boundary};
 ghost use Rattle.host_reads.specs.Answers.{lastly};
 ghost use Rattle.host_levels.specs.Levels.{levelCalled, queueCall, profileCall, l2Call, staleCall};
 
 // What the words of a level read are turned away for.
 fn level_boundary(state: &[u64], rows: usize, scratch: usize, side: u64) -> u64
-    ensures { λ r. ⌜ r ≡ boundary (now (state .entry)) rows (ltb scratch (getD (now (state .entry)) 3 0)) false (noBit side) ⌝ }
+    ensures { λ r. ⌜ r ≡ boundary (now (state .entry)) (record { rows = rows }) (ltb scratch (getD (now (state .entry)) 3 0)) false (noBit side) ⌝ }
 {
     let less = scratch_short(state, scratch);
     boundary(state, rows, less, false, no_bit(side))
@@ -43,9 +45,9 @@ fn lacks_scratch(book: BookReconstructor, scratch: usize) -> bool
 
 // As `unwritten`, of a read of an invalid book.
 fn unwritten_stale(book: BookReconstructor, rows: &[u64], short: bool) -> u64
-    ensures { λ r. ⌜ r ≡ lastly (staleTold (staleRead (stateRead ceiling book (now (rows .entry)) short) (book .status) (shows OutputTooSmall [] []) [] [] .answer) .number) ⌝ }
+    ensures { λ r. ⌜ r ≡ lastly (staleTold (staleRead (readRefusalOf ceiling book (memory (now (rows .entry))) short) (book .status) (shows OutputTooSmall [] []) [] [] .answer) .number) ⌝ }
 {
-    match reconstructor_view::read_checks(book, rows, short) {
+    match reconstructor_view::read_checks(VenueRules::CEILING, book, rows, short) {
         Checked::Refused(why) => why.number(),
         Checked::Passed => {
             let status = book.status;

@@ -6,15 +6,16 @@ use reconstructor_reads::LevelAnswer;
 use reconstructor_reads::Shown;
 use reconstructor_reads::StaleAnswer;
 use reconstructor_state::BookReconstructor;
+use reconstructor_state::VenueRules;
 use reconstructor_view::BestAnswer;
 use reconstructor_view::InvalidationAnswer;
 use reconstructor_view::SegmentAnswer;
-use reconstructor_view::Viewed;
+use reconstructor_view::SequenceAnswer;
 ghost use mathlib.Core.Path.{_≡_};
-ghost use Rattle.book.specs.Rows.{ceiling};
-ghost use Rattle.reconstructor_state.specs.State.{lastOf};
-ghost use Rattle.reconstructor_view.specs.View.{bookView, viewed};
-ghost use Rattle.reconstructor_view.specs.Numbers.{viewedTold, present, priceOf, bestTold, invalidationTold, segmentTold};
+ghost use Rattle.book.specs.Memory.{memory};
+ghost use Rattle.reconstructor_state.specs.State.{ceiling, lastOf};
+ghost use Rattle.reconstructor_view.specs.ValueReads.{viewRefusalOf, sequenceOf};
+ghost use Rattle.reconstructor_view.specs.Numbers.{sequenceTold, present, priceOf, bestTold, invalidationTold, segmentTold};
 ghost use Rattle.reconstructor_reads.specs.Numbers.{shownTold, levelTold, staleTold};
 ghost use Rattle.host_reads.specs.Answers.{answered, given, toldIn, lastly};
 
@@ -29,12 +30,12 @@ pub fn give(out: &mut [u64], values: &[u64]) -> u64
     0
 }
 
-pub fn store_last(out: &mut [u64], answer: Viewed) -> u64
-    ensures { λ r. ⌜ answered r (now (out .exit)) ≡ toldIn (viewedTold answer) (now (out .entry)) ⌝ }
+pub fn store_last(out: &mut [u64], answer: SequenceAnswer) -> u64
+    ensures { λ r. ⌜ answered r (now (out .exit)) ≡ toldIn (sequenceTold answer) (now (out .entry)) ⌝ }
 {
     match answer {
-        Viewed::Valid { last_seq } => { give(out, &[last_seq]) }
-        Viewed::Refused(why) => why.number(),
+        SequenceAnswer::Valid { last_seq } => { give(out, &[last_seq]) }
+        SequenceAnswer::Refused(why) => why.number(),
     }
 }
 
@@ -148,10 +149,10 @@ pub fn store_segment(out: &mut [u64], answer: SegmentAnswer) -> u64
 
 // The number of a read of a valid book whose answer has no room: 7, unless it is turned away before. `short` says that its scratch, if any, is too short.
 pub fn unwritten(book: BookReconstructor, rows: &[u64], short: bool) -> u64
-    ensures { λ r. ⌜ r ≡ lastly (viewedTold (viewed (bookView ceiling book (now (rows .entry)) short) (lastOf (book .status))) .number) ⌝ }
+    ensures { λ r. ⌜ r ≡ lastly (sequenceTold (sequenceOf (viewRefusalOf ceiling book (memory (now (rows .entry))) short) (lastOf (book .status))) .number) ⌝ }
 {
-    match reconstructor_view::valid_book(book, rows, short) {
-        Viewed::Valid { .. } => 7,
-        Viewed::Refused(why) => why.number(),
+    match reconstructor_view::valid_book(VenueRules::CEILING, book, rows, short) {
+        SequenceAnswer::Valid { .. } => 7,
+        SequenceAnswer::Refused(why) => why.number(),
     }
 }

@@ -3,26 +3,27 @@ use Prim.Native.Nat.{ℕ}
 use mathlib.Core.List.{List}
 use mathlib.Core.Bool.{false}
 use lib.ListN.{length}
-use Rattle.book.specs.Rows.{ceiling}
+use Rattle.reconstructor_state.specs.State.{ceiling}
+use Rattle.book.specs.Memory.{memory, extentOf}
 use Rattle.host_words.specs.Block.{bookOf}
-use Rattle.reconstructor_view.specs.Numbers.{viewedTold, bestTold, auditedTold, invalidationTold, segmentTold}
-use Rattle.reconstructor_view.specs.View.{lastSequence, bestRead, auditRead, invalidationOf, segmentRead}
+use Rattle.reconstructor_view.specs.Numbers.{sequenceTold, bestTold, auditedTold, invalidationTold, segmentTold}
+use Rattle.reconstructor_view.specs.ValueReads.{lastSequence, bestRead, auditRead, invalidationOf, segmentRead}
 use Rattle.host_boundary.specs.Boundary.{boundary, ownBoundary, unlessTurned}
 use Rattle.host_records.specs.Records.{recordsOf}
 use Rattle.host_reads.specs.Answers.{Answered, answered, toldIn}
 
 unfoldable pub lastCall : List ℕ → List ℕ → List ℕ → Answered
 lastCall st ws out =
-    unlessTurned (boundary st (length ws) false false false) (λ (k : ℕ). answered k out)
-    (toldIn (viewedTold (lastSequence ceiling (bookOf st) ws)) out)
+    unlessTurned (boundary st (extentOf (memory ws)) false false false) (λ (k : ℕ). answered k out)
+    (toldIn (sequenceTold (lastSequence ceiling (bookOf st) (memory ws))) out)
 
 unfoldable pub bestCall : List ℕ → List ℕ → List ℕ → Answered
 bestCall st ws out =
-    unlessTurned (boundary st (length ws) false false false) (λ (k : ℕ). answered k out) (toldIn (bestTold (bestRead ceiling (bookOf st) ws)) out)
+    unlessTurned (boundary st (extentOf (memory ws)) false false false) (λ (k : ℕ). answered k out) (toldIn (bestTold (bestRead ceiling (bookOf st) (memory ws))) out)
 
 unfoldable pub auditCall : List ℕ → List ℕ → ℕ
 auditCall st ws =
-    unlessTurned (boundary st (length ws) false false false) (λ (k : ℕ). k) (auditedTold (auditRead ceiling (bookOf st) ws) .number)
+    unlessTurned (boundary st (extentOf (memory ws)) false false false) (λ (k : ℕ). k) (auditedTold (auditRead ceiling (bookOf st) (memory ws)) .number)
 
 -- ---- the state's own fields and the lent list, whatever the standing
 

@@ -61,7 +61,7 @@ pub fn segment(state: &[u64], segments: &[u64], place: usize, out: &mut [u64]) -
         return stop;
     }
     let book = load_book(state);
-    let lent = segments.len() / 8;
+    let lent = segments.len() / host_records::RECORD_WORDS;
     let record = host_records::record_at(segments, place);
     let answer = reconstructor_view::segment_by_value(book, lent, place, record);
     store_segment(out, answer)

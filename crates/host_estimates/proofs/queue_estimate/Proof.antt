@@ -1,3 +1,4 @@
+use Rattle.book.specs.Memory.{memory, extentOf}
 use mathlib.Core.Path.{sym, ap, _∙_}
 use Prim.Native.Nat.{ℕ}
 use mathlib.Core.Bool.{Bool, false}
@@ -19,12 +20,12 @@ returns : tie.Need-returns
 unfolding estimateCall
 returns c =
     let k-start = c .before .before .before .before .before .before .before in
-    turned-away _ _ (λ (n : ℕ). estimateCalled n (k-start .args .ahead .now) (k-start .args .estimate .now)) _ (c .before .boundary .ensures ∙ ap (λ (y : Bool). boundary (k-start .args .state .now) (length (k-start .args .rows .now)) false false y) (c .before .before .no-bit .ensures)) (c .if1 .taken)
+    turned-away _ _ (λ (n : ℕ). estimateCalled n (k-start .args .ahead .now) (k-start .args .estimate .now)) _ (c .before .boundary .ensures ∙ ap (λ (y : Bool). boundary (k-start .args .state .now) (extentOf (memory (k-start .args .rows .now))) false false y) (c .before .before .no-bit .ensures)) (c .if1 .taken)
 
 load-book-requires : tie.Need-load-book-requires
 load-book-requires c κs =
     let k-start = c .before .before .before .before .before .before .before in
-    passed (k-start .args .state .now) (length (k-start .args .rows .now)) false false (noBit (k-start .args .side)) (eq-eqb _ _ (sym (c .before .boundary .ensures ∙ ap (λ (y : Bool). boundary (k-start .args .state .now) (length (k-start .args .rows .now)) false false y) (c .before .before .no-bit .ensures)) ∙ c .if1 .left)) .whole
+    passed (k-start .args .state .now) (extentOf (memory (k-start .args .rows .now))) false false (noBit (k-start .args .side)) (eq-eqb _ _ (sym (c .before .boundary .ensures ∙ ap (λ (y : Bool). boundary (k-start .args .state .now) (extentOf (memory (k-start .args .rows .now))) false false y) (c .before .before .no-bit .ensures)) ∙ c .if1 .left)) .whole
 
 returns-2 : tie.Need-returns-2
 unfolding estimateCall
@@ -33,8 +34,8 @@ returns-2 c =
     let k-boundary = k-if1 .before in
     let k-no-bit = k-boundary .before in
     let k-start = k-no-bit .before .before .before .before .before in
-    goes-on _ _ (λ (n : ℕ). estimateCalled n (k-start .args .ahead .now) (k-start .args .estimate .now)) _ _ (k-boundary .boundary .ensures ∙ ap (λ (y : Bool). boundary (k-start .args .state .now) (length (k-start .args .rows .now)) false false y) (k-no-bit .no-bit .ensures)) (k-if1 .if1 .left)
-    (rw (← c .before .before .load-book .ensures) (estimate-unwritten _ (k-start .args .ahead .now) (k-start .args .estimate .now) (c .before .before .load-book .result) (k-start .args .rows .now) (sideOf (k-start .args .side)) (toZ w64 (k-start .args .price)) (c .before .if2 .taken) (c .unwritten .ensures)))
+    goes-on _ _ (λ (n : ℕ). estimateCalled n (k-start .args .ahead .now) (k-start .args .estimate .now)) _ _ (k-boundary .boundary .ensures ∙ ap (λ (y : Bool). boundary (k-start .args .state .now) (extentOf (memory (k-start .args .rows .now))) false false y) (k-no-bit .no-bit .ensures)) (k-if1 .if1 .left)
+    (rw (← c .before .before .load-book .ensures) (estimate-unwritten _ (k-start .args .ahead .now) (k-start .args .estimate .now) (c .before .before .load-book .result) (memory (k-start .args .rows .now)) (sideOf (k-start .args .side)) (toZ w64 (k-start .args .price)) (c .before .if2 .taken) (c .unwritten .ensures)))
 
 returns-3 : tie.Need-returns-3
 unfolding estimateCall
@@ -48,7 +49,7 @@ returns-3 c =
     let k-boundary = k-if1 .before in
     let k-no-bit = k-boundary .before in
     let k-start = k-no-bit .before .before .before .before .before in
-    goes-on _ _ (λ (n : ℕ). estimateCalled n (k-start .args .ahead .now) (k-start .args .estimate .now)) _ _ (k-boundary .boundary .ensures ∙ ap (λ (y : Bool). boundary (k-start .args .state .now) (length (k-start .args .rows .now)) false false y) (k-no-bit .no-bit .ensures)) (k-if1 .if1 .left)
+    goes-on _ _ (λ (n : ℕ). estimateCalled n (k-start .args .ahead .now) (k-start .args .estimate .now)) _ _ (k-boundary .boundary .ensures ∙ ap (λ (y : Bool). boundary (k-start .args .state .now) (extentOf (memory (k-start .args .rows .now))) false false y) (k-no-bit .no-bit .ensures)) (k-if1 .if1 .left)
     (rw (← k-load-book .load-book .ensures, ← k-load-side .load-side .ensures, ← k-signed .signed .ensures, ← back (k-signed .signed .result) (k-signed .signed .ok)) (estimate-stored _ _ _ (k-start .args .ahead .now) (k-start .args .estimate .now) (k-if2 .if2 .left) _ _ (c .before .before .store-estimate .ensures) (k-queue-estimate .queue-estimate .ensures .0)))
 
 pub queue-estimate-spec : {M : Type 1} → statement M

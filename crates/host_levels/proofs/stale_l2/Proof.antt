@@ -1,3 +1,4 @@
+use Rattle.book.specs.Memory.{memory, extentOf}
 use mathlib.Core.Path.{sym, ap, _∙_}
 use Prim.Native.Nat.{ℕ}
 use mathlib.Core.Bool.{Bool, false}
@@ -5,11 +6,11 @@ use borrow.Author.Tests.{eq-eqb}
 use lib.ListN.{length, getD}
 use lib.Dec.{ltb}
 use mathlib.Core.List.{[]}
-use Rattle.book.specs.Rows.{ceiling}
-use Rattle.reconstructor_view.specs.View.{stateRead}
+use Rattle.reconstructor_state.specs.State.{ceiling}
+use Rattle.reconstructor_view.specs.ValueReads.{readRefusalOf}
 use Rattle.reconstructor_reads.specs.declared.Shown.the-variants.{OutputTooSmall}
 use Rattle.reconstructor_reads.specs.Numbers.{staleTold}
-use Rattle.reconstructor_reads.specs.Reads.{shows, staleRead}
+use Rattle.reconstructor_reads.specs.LevelReads.{shows, staleRead}
 use Rattle.host_reads.specs.Answers.{lastly}
 use Rattle.host_boundary.specs.Boundary.{noBit}
 use Rattle.host_boundary.proofs.Passed.{passed, turned-away, goes-on}
@@ -28,7 +29,7 @@ returns c =
 load-book-requires : tie.Need-load-book-requires
 load-book-requires c κs =
     let k-start = c .before .before .before .before .before .before .before in
-    passed (k-start .args .state .now) (length (k-start .args .rows .now)) (ltb (length (k-start .args .scratch .now)) (getD (k-start .args .state .now) 3 0)) false (noBit (k-start .args .side)) (eq-eqb _ _ (sym (c .before .level-boundary .ensures) ∙ c .if1 .left)) .whole
+    passed (k-start .args .state .now) (extentOf (memory (k-start .args .rows .now))) (ltb (length (k-start .args .scratch .now)) (getD (k-start .args .state .now) 3 0)) false (noBit (k-start .args .side)) (eq-eqb _ _ (sym (c .before .level-boundary .ensures) ∙ c .if1 .left)) .whole
 
 returns-2 : tie.Need-returns-2
 unfolding staleCall
@@ -38,7 +39,7 @@ returns-2 c =
     let k-level-boundary = k-if1 .before in
     let k-start = k-level-boundary .before .before .before .before .before .before in
     goes-on _ _ (λ (n : ℕ). levelCalled n (k-start .args .scratch .now) (k-start .args .out .now) (k-start .args .count .now)) _ _ (k-level-boundary .level-boundary .ensures) (k-if1 .if1 .left)
-    (rw (← k-load-book .load-book .ensures) (stale-unwritten _ (k-start .args .scratch .now) (k-start .args .out .now) (k-start .args .count .now) _ (c .before .before .if2 .taken) _ (k-load-book .load-book .result .status) (c .unwritten-stale .ensures ∙ ap (λ (x : Bool). lastly (staleTold (staleRead (stateRead ceiling (k-load-book .load-book .result) (k-start .args .rows .now) x) (k-load-book .load-book .result .status) (shows OutputTooSmall [] []) [] [] .answer) .number)) (c .before .lacks-scratch .ensures))))
+    (rw (← k-load-book .load-book .ensures) (stale-unwritten _ (k-start .args .scratch .now) (k-start .args .out .now) (k-start .args .count .now) _ (c .before .before .if2 .taken) _ (k-load-book .load-book .result .status) (c .unwritten-stale .ensures ∙ ap (λ (x : Bool). lastly (staleTold (staleRead (readRefusalOf ceiling (k-load-book .load-book .result) (memory (k-start .args .rows .now)) x) (k-load-book .load-book .result .status) (shows OutputTooSmall [] []) [] [] .answer) .number)) (c .before .lacks-scratch .ensures))))
 
 returns-3 : tie.Need-returns-3
 unfolding staleCall

@@ -1,5 +1,5 @@
 use mathlib.Core.Path.{sym}
-use Rattle.reconstructor_reads.specs.Reads.{staleRead}
+use Rattle.reconstructor_reads.specs.LevelReads.{staleRead}
 use Rattle.reconstructor_checks.proofs.Own.{said, said-none}
 use Rattle.host_reads.proofs.Refusals.{state-lastly}
 use borrow.Author.Needs.{needs}

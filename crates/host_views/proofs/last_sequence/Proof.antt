@@ -1,10 +1,11 @@
+use Rattle.book.specs.Memory.{memory, extentOf}
 use mathlib.Core.Path.{sym, ap, _∙_}
 use Prim.Native.Nat.{ℕ}
 use mathlib.Core.Bool.{false}
 use borrow.Author.Tests.{eq-eqb}
 use lib.ListN.{length}
 use Rattle.host_boundary.proofs.Passed.{passed, turned-away, goes-on}
-use Rattle.reconstructor_view.specs.Numbers.{viewedTold}
+use Rattle.reconstructor_view.specs.Numbers.{sequenceTold}
 use Rattle.host_reads.specs.Answers.{answered, toldIn}
 use Rattle.host_views.specs.Views.{lastCall}
 use borrow.Author.Needs.{needs}
@@ -20,7 +21,7 @@ returns c =
 load-book-requires : tie.Need-load-book-requires
 load-book-requires c κs =
     let k-start = c .before .before .before .before .before in
-    passed (k-start .args .state .now) (length (k-start .args .rows .now)) false false false (eq-eqb _ _ (sym (c .before .boundary .ensures) ∙ c .if1 .left)) .whole
+    passed (k-start .args .state .now) (extentOf (memory (k-start .args .rows .now))) false false false (eq-eqb _ _ (sym (c .before .boundary .ensures) ∙ c .if1 .left)) .whole
 
 returns-2 : tie.Need-returns-2
 unfolding lastCall
@@ -31,7 +32,7 @@ returns-2 c =
     let k-boundary = k-if1 .before in
     let k-start = k-boundary .before .before .before .before in
     goes-on _ _ (λ (n : ℕ). answered n (k-start .args .out .now)) _ _ (k-boundary .boundary .ensures) (k-if1 .if1 .left)
-    (rw (← k-load-book .load-book .ensures) (c .before .before .store-last .ensures ∙ ap (λ x. toldIn (viewedTold x) (k-start .args .out .now)) (k-last-sequence .last-sequence .ensures .0)))
+    (rw (← k-load-book .load-book .ensures) (c .before .before .store-last .ensures ∙ ap (λ x. toldIn (sequenceTold x) (k-start .args .out .now)) (k-last-sequence .last-sequence .ensures .0)))
 
 pub last-sequence-spec : {M : Type 1} → statement M
 last-sequence-spec =

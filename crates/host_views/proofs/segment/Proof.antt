@@ -2,7 +2,7 @@ use mathlib.Core.Path.{sym, ap, ap₂, _∙_}
 use Prim.Native.Nat.{ℕ}
 use borrow.Author.Tests.{eq-eqb}
 use Rattle.host_boundary.proofs.Passed.{own-passed, turned-away, goes-on}
-use Rattle.reconstructor_view.specs.View.{segmentReadTo}
+use Rattle.reconstructor_view.specs.ValueReads.{segmentReadTo}
 use Rattle.reconstructor_view.specs.Numbers.{segmentTold}
 use Rattle.host_records.proofs.Records.{length-records}
 use Rattle.host_reads.specs.Answers.{answered, toldIn}
