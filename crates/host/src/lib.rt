@@ -88,7 +88,7 @@ pub extern "C" fn pinuglaw_apply(
 ) -> u64
     ensures { λ r. ⌜ called r (now (state .exit)) (now (rows .exit)) (now (segments .exit)) ≡ applyCall (now (state .entry)) (now (rows .entry)) (now (segments .entry)) (now (message .entry)) ⌝ }
 {
-    host_calls::apply(state, rows, segments, message)
+    host_apply::apply(state, rows, segments, message)
 }
 
 // Takes the snapshot piece in `bytes` for that book. Answers 0 or the number that turns it away. Those 27 words are the state afterwards; of a refusal, but for the count
@@ -102,7 +102,7 @@ pub extern "C" fn pinuglaw_bootstrap(
 ) -> u64
     ensures { λ r. ⌜ called r (now (state .exit)) (now (rows .exit)) (now (segments .exit)) ≡ bootstrapCall (now (state .entry)) (now (rows .entry)) (now (segments .entry)) (now (bytes .entry)) ⌝ }
 {
-    host_calls::bootstrap(state, rows, segments, bytes)
+    host_bootstrap::bootstrap(state, rows, segments, bytes)
 }
 
 // A handshake for the segment that the book is in, into four words; crate `host_handshake` has the layout in specs/Steps.antt. Before any snapshot it has ended. Answers 0
@@ -111,7 +111,7 @@ pub extern "C" fn pinuglaw_bootstrap(
 pub extern "C" fn pinuglaw_handshake(state: &[u64], handshake: &mut [u64]) -> u64
     ensures { λ r. ⌜ answered r (now (handshake .exit)) ≡ handshakeCall (now (state .entry)) (now (handshake .entry)) ⌝ }
 {
-    host_calls::new_handshake(state, handshake)
+    host_step::new_handshake(state, handshake)
 }
 
 // Steps a handshake by a message of 21 words. Answers as `pinuglaw_apply` does, 512 where the message was dropped, and 9 where the handshake has ended or is
@@ -126,7 +126,7 @@ pub extern "C" fn pinuglaw_step(
 ) -> u64
     ensures { λ r. ⌜ stepCalled r (now (state .exit)) (now (rows .exit)) (now (segments .exit)) (now (handshake .exit)) ≡ stepCall (now (state .entry)) (now (rows .entry)) (now (segments .entry)) (now (handshake .entry)) (now (message .entry)) ⌝ }
 {
-    host_calls::step(state, rows, segments, handshake, message)
+    host_step::step(state, rows, segments, handshake, message)
 }
 
 // Applies the messages in `messages`, 21 words each, in turn: what as many calls of `pinuglaw_apply` answer and leave, with the number of each message in a

@@ -33,7 +33,7 @@ pub fn queue_estimate(
     if estimate.len() < ESTIMATE_WORDS {
         return unwritten(book, rows, false);
     }
-    let answer = queue::queue_estimate(book, rows, load_side(side), signed(price), ahead);
+    let answer = queue_estimates::queue_estimate(book, rows, load_side(side), signed(price), ahead);
     store_estimate(estimate, answer)
 }
 
@@ -54,7 +54,7 @@ pub fn queue_estimate_own(
         high: id_high,
         low: id_low,
     };
-    let answer = queue::queue_estimate_own(load_book(state), rows, id);
+    let answer = queue_estimates::queue_estimate_own(load_book(state), rows, id);
     store_estimate(estimate, answer)
 }
 
@@ -72,6 +72,6 @@ pub fn volume_ahead(
     if stop != 0 {
         return stop;
     }
-    let answer = queue::volume_ahead(load_book(state), rows, load_estimate(estimate), ahead);
+    let answer = queue_ahead::volume_ahead(load_book(state), rows, load_estimate(estimate), ahead);
     store_ahead(out, answer)
 }

@@ -10,10 +10,8 @@ use recorded::Header;
 use recorded::least;
 use recorded::read_header;
 
-// A call on the book.
-fn perform(h: Header, payload: &[u8], state: &mut [u64], rows: &mut [u64], segments: &mut [u64]) {
-    print::voice(h.voice);
-    print::name(h.operation);
+// A call that may change the book, or that makes a handshake.
+fn change(h: Header, payload: &[u8], state: &mut [u64], rows: &mut [u64], segments: &mut [u64]) {
     let operation = h.operation;
     match operation {
         0 => calls::create(h, payload, state, rows, segments),
@@ -21,7 +19,14 @@ fn perform(h: Header, payload: &[u8], state: &mut [u64], rows: &mut [u64], segme
         2 => calls::bootstrap(payload, state, rows, segments),
         3 => calls::apply(payload, state, rows, segments),
         4 => calls::begin(state),
-        5 => calls::step(payload, state, rows, segments),
+        _ => calls::step(payload, state, rows, segments),
+    }
+}
+
+// A call that reads the book.
+fn read(h: Header, payload: &[u8], state: &[u64], rows: &[u64], segments: &[u64]) {
+    let operation = h.operation;
+    match operation {
         6 => calls::last_sequence(state, rows),
         7 => calls::best(state, rows),
         8 => calls::audit(state, rows),
@@ -32,6 +37,16 @@ fn perform(h: Header, payload: &[u8], state: &mut [u64], rows: &mut [u64], segme
         16 => calls::invalidation(state),
         17 => calls::segment(h, state, segments),
         _ => print::end(),
+    }
+}
+
+fn perform(h: Header, payload: &[u8], state: &mut [u64], rows: &mut [u64], segments: &mut [u64]) {
+    print::voice(h.voice);
+    print::name(h.operation);
+    let operation = h.operation;
+    match operation {
+        0..=5 => change(h, payload, state, rows, segments),
+        _ => read(h, payload, state, rows, segments),
     }
 }
 

@@ -16,27 +16,46 @@ pub fn voice(voice: u64) {
     }
 }
 
-pub fn name(operation: u64) {
+// The names of the calls, a few to a function: the more texts one has, the longer its proof.
+fn change_name(operation: u64) {
     match operation {
         0 => text(b" create"),
         1 => text(b" write"),
         2 => text(b" bootstrap"),
         3 => text(b" apply"),
         4 => text(b" handshake"),
-        5 => text(b" step"),
+        _ => text(b" step"),
+    }
+}
+
+fn read_name(operation: u64) {
+    match operation {
         6 => text(b" last_sequence"),
         7 => text(b" best"),
         8 => text(b" audit"),
         9 => text(b" level_queue"),
         10 => text(b" priority_profile"),
         11 => text(b" l2"),
-        12 => text(b" stale_l2"),
+        _ => text(b" stale_l2"),
+    }
+}
+
+fn other_name(operation: u64) {
+    match operation {
         13 => text(b" queue_estimate"),
         14 => text(b" queue_estimate_own"),
         15 => text(b" volume_ahead"),
         16 => text(b" invalidation"),
         17 => text(b" segment"),
         _ => text(b" unknown"),
+    }
+}
+
+pub fn name(operation: u64) {
+    match operation {
+        0..=5 => change_name(operation),
+        6..=12 => read_name(operation),
+        _ => other_name(operation),
     }
 }
 

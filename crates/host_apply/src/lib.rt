@@ -1,0 +1,40 @@
+// A message applied to a book whose state, message and segment list are words: the call that `host` exports. It does on words what `apply` does on a slice of
+// records, by the same work.
+use host_boundary::boundary;
+use host_boundary::list_short;
+use host_boundary::no_message;
+use host_messages::load_message;
+use host_records::RECORD_WORDS;
+use host_records::last_record;
+use host_records::rewrite_record;
+use host_words::load_book;
+use host_words::sets_status;
+use host_words::store_book;
+use piece::MESSAGE_WORDS;
+ghost use mathlib.Core.Path.{_≡_};
+ghost use Rattle.host_calls.specs.Calls.{called, applyCall};
+
+pub fn apply(state: &mut [u64], rows: &mut [u64], segments: &mut [u64], message: &[u64]) -> u64
+    ensures { λ r. ⌜ called r (now (state .exit)) (now (rows .exit)) (now (segments .exit)) ≡ applyCall (now (state .entry)) (now (rows .entry)) (now (segments .entry)) (now (message .entry)) ⌝ }
+{
+    let lent = segments.len() / RECORD_WORDS;
+    let less = list_short(state, lent);
+    let stop = boundary(
+        state,
+        rows.len(),
+        less,
+        message.len() < MESSAGE_WORDS,
+        no_message(message),
+    );
+    if stop != 0 {
+        return stop;
+    }
+    let book = load_book(state);
+    let count = book.segments;
+    let last = last_record(segments, count);
+    let work = reconstructor::apply_by_value(book, rows, lent, last, load_message(message));
+    rewrite_record(segments, count, work.segment);
+    let answer = work.answer;
+    store_book(state, work.book, sets_status(answer));
+    answer.number()
+}

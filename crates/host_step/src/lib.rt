@@ -1,0 +1,65 @@
+// A handshake made and stepped where the state, the handshake, the message and the segment list are words: the calls that `host` exports. A step does on words
+// what `Handshake::step` does on a slice of records, by the same work.
+use host_boundary::boundary;
+use host_boundary::list_short;
+use host_boundary::no_handshake;
+use host_boundary::no_message;
+use host_boundary::own_boundary;
+use host_handshake::HANDSHAKE_WORDS;
+use host_handshake::load_handshake;
+use host_handshake::step_sets_status;
+use host_handshake::store_handshake;
+use host_messages::load_message;
+use host_records::RECORD_WORDS;
+use host_records::last_record;
+use host_records::rewrite_record;
+use host_words::load_book;
+use host_words::store_book;
+use piece::MESSAGE_WORDS;
+use reconstructor_handshake::Handshake;
+ghost use mathlib.Core.Path.{_≡_};
+ghost use Rattle.host_reads.specs.Answers.{answered};
+ghost use Rattle.host_calls.specs.Calls.{handshakeCall, stepCalled, stepCall};
+
+pub fn new_handshake(state: &[u64], handshake: &mut [u64]) -> u64
+    ensures { λ r. ⌜ answered r (now (handshake .exit)) ≡ handshakeCall (now (state .entry)) (now (handshake .entry)) ⌝ }
+{
+    let stop = own_boundary(state);
+    if stop != 0 {
+        return stop;
+    }
+    if handshake.len() < HANDSHAKE_WORDS {
+        return 7;
+    }
+    store_handshake(handshake, Handshake::new(load_book(state)));
+    0
+}
+
+pub fn step(
+    state: &mut [u64],
+    rows: &mut [u64],
+    segments: &mut [u64],
+    handshake: &mut [u64],
+    message: &[u64],
+) -> u64
+    ensures { λ r. ⌜ stepCalled r (now (state .exit)) (now (rows .exit)) (now (segments .exit)) (now (handshake .exit)) ≡ stepCall (now (state .entry)) (now (rows .entry)) (now (segments .entry)) (now (handshake .entry)) (now (message .entry)) ⌝ }
+{
+    let lent = segments.len() / RECORD_WORDS;
+    let less = list_short(state, lent);
+    let short = (handshake.len() < HANDSHAKE_WORDS) | (message.len() < MESSAGE_WORDS);
+    let wrong = no_handshake(handshake) | no_message(message);
+    let stop = boundary(state, rows.len(), less, short, wrong);
+    if stop != 0 {
+        return stop;
+    }
+    let book = load_book(state);
+    let count = book.segments;
+    let last = last_record(segments, count);
+    let hands = load_handshake(handshake);
+    let work = hands.step_by_value(book, rows, lent, last, load_message(message));
+    rewrite_record(segments, count, work.segment);
+    let answer = work.answer;
+    store_book(state, work.book, step_sets_status(answer));
+    store_handshake(handshake, work.handshake);
+    answer.number()
+}
