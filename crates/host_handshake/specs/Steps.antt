@@ -1,6 +1,6 @@
 -- A handshake from words and as words. Any words are read as some handshake; an end that is neither 0 nor 1 is turned away before (crate `host_boundary`).
 use Prim.Native.Nat.{ℕ}
-use mathlib.Core.Bool.{Bool, true, false, not, cond}
+use mathlib.Core.Bool.{Bool, false, not, cond}
 use mathlib.Core.List.{List, _∷_}
 use lib.Dec.{eqb}
 use lib.ListN.{getD, drop}

@@ -22,11 +22,13 @@ ghost use Rattle.host_boundary.specs.Boundary.{noMessage};
 ghost use Rattle.host_calls.specs.Calls.{called, applyCall};
 ghost use Rattle.host_replay.specs.Replay.{run, countOf, afterRun, replayCalled, replayCall, Ready, Runs};
 
-// Up to so many rows a run works with few places in its index, else with many.
+// Up to so many rows the index of a run has few places, past that many.
 const FEW_ROWS: usize = 256;
 
+// In so many most ids that do not rest find no mark, and they are cleared fast.
 const FEW_PLACES: usize = 4096;
 
+// The same of more rows.
 const MANY_PLACES: usize = 65536;
 
 // What a message of the run leaves beside the lent words: its number, and the bounds of the rows.
@@ -133,7 +135,7 @@ fn replay_in(
     replay_from(state, rows, segments, messages, answers, places, bounds)
 }
 
-// The same with memory of its own, in which most ids that do not rest find no mark: little where few rows ask for it, since it is cleared at each call.
+// The same with memory of its own: little where few rows ask for it, since it is cleared at each call.
 fn replay_few(
     state: &mut [u64],
     rows: &mut [u64],

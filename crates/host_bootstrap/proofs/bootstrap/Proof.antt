@@ -2,7 +2,6 @@ use mathlib.Core.Path.{sym, ap, _∙_}
 use Prim.Native.Nat.{ℕ}
 use mathlib.Core.Bool.{Bool, false}
 use borrow.Author.Tests.{eq-eqb}
-use lib.ListN.{length}
 use Rattle.host_calls.proofs.Blocks.{less}
 use Rattle.book.specs.Memory.{memory, extentOf}
 use Rattle.reconstructor_state.specs.State.{ceiling}
