@@ -8,7 +8,7 @@ ghost use mathlib.Core.Path.{_≡_};
 ghost use Rattle.piece.specs.Piece.{readMessage, readSnapshot, orderAt};
 ghost use Rattle.book.specs.Broken.{wordsBroken};
 ghost use Rattle.host_pieces.specs.Pieces.{messageNumber, messageOut, snapshotNumber, snapshotOut, orderNumber, orderOut};
-ghost use Rattle.host_reads.specs.Answers.{answered};
+ghost use Rattle.host_answers.specs.Answers.{answered};
 ghost use Rattle.host_new.specs.New.{newCall};
 ghost use Rattle.host_calls.specs.Calls.{called, stepCalled, applyCall, bootstrapCall, handshakeCall, stepCall};
 ghost use Rattle.host_replay.specs.Replay.{replayCalled, replayCall};

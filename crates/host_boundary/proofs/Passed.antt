@@ -11,7 +11,7 @@ use Rattle.laws.proofs.Bools.{or-no, absurd-bool}
 use Rattle.book.specs.Memory.{Extent}
 use Rattle.reconstructor_state.specs.declared.VenueRules.{VenueRules}
 use Rattle.reconstructor_state.specs.State.{ceiling}
-use Rattle.reconstructor_checks.specs.Own.{overCeiling, memoryShort}
+use Rattle.reconstructor_checks.specs.StateChecks.{overCeiling, memoryShort}
 use Rattle.host_words.specs.Block.{rulesOf}
 use Rattle.host_boundary.specs.Boundary.{noBook, noBookNumber, shortInput, boundary, ownBoundary, unlessTurned}
 

@@ -12,7 +12,7 @@ use lib.ListN.{length, getD}
 use Rattle.book.specs.Memory.{Extent}
 use Rattle.reconstructor_state.specs.declared.VenueRules.{VenueRules}
 use Rattle.reconstructor_state.specs.State.{ceiling}
-use Rattle.reconstructor_checks.specs.Own.{overCeiling, memoryShort}
+use Rattle.reconstructor_checks.specs.StateChecks.{overCeiling, memoryShort}
 use Rattle.host_words.specs.Block.{stateWords, rulesOf}
 
 abbrev pub shortInput : ℕ

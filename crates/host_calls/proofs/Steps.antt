@@ -22,7 +22,7 @@ use Rattle.reconstructor_segments.specs.declared.Segment.{Segment}
 use Rattle.reconstructor_segments.specs.Segments.{lastSegment, relast}
 use Rattle.reconstructor_state.specs.Checks.{check, first}
 use Rattle.reconstructor_state.specs.State.{ceiling, viewWith, lengthsWith, segmentOf}
-use Rattle.reconstructor_checks.specs.Own.{stateRefusal, broken}
+use Rattle.reconstructor_checks.specs.StateChecks.{stateRefusal, broken}
 use Rattle.reconstructor.specs.Applied.{appliedTo, applied}
 use Rattle.reconstructor_handshake.specs.declared.StepAnswer.{StepAnswer}
 use Rattle.reconstructor_handshake.specs.declared.StepAnswer.the-variants.{Stepped, OtherSegment}
@@ -32,7 +32,7 @@ use Rattle.reconstructor_answers.specs.Numbers.{answerNumber}
 use Rattle.host_words.specs.Block.{bookOf, messageOf, restored}
 use Rattle.host_boundary.specs.Boundary.{noMessage, noHandshake, unlessTurned}
 use Rattle.host_boundary.proofs.Passed.{Passed, passes, by-boundary}
-use Rattle.host_handshake.specs.Steps.{handshakeOf, handshakeLeft, stepSets}
+use Rattle.host_handshake.specs.HandshakeWords.{handshakeOf, handshakeLeft, stepSets}
 use Rattle.host_calls.specs.Calls.{Call, StepCall, stepCalled, afterStep, stepCall}
 use Rattle.laws.proofs.Bools.{absurd-bool, or-no}
 use Rattle.host_words.proofs.Blocks.{block-same, raised, raised-dropped}

@@ -22,7 +22,7 @@ use Rattle.host_records.specs.Records.{recordsIn, recordsOf, relaid}
 use Rattle.reconstructor_bootstrap.specs.Numbers.{snapshotNumber}
 use Rattle.reconstructor_answers.specs.Numbers.{answerNumber}
 use Rattle.host_words.specs.Block.{restored, setsStatus}
-use Rattle.host_handshake.specs.Steps.{handshakeLeft, stepSets}
+use Rattle.host_handshake.specs.HandshakeWords.{handshakeLeft, stepSets}
 use Rattle.host_calls.specs.Calls.{called, afterApply, afterBootstrap, stepCalled, afterStep}
 use Rattle.host_records.proofs.Records.{length-records, records-relaid, relaid-twice}
 

@@ -15,8 +15,8 @@ use Rattle.reconstructor_bootstrap.specs.Numbers.{snapshotTold}
 use Rattle.reconstructor_bootstrap.specs.Bootstrap.{Parts as SnapshotParts, bootstrapped}
 use Rattle.reconstructor_state.specs.State.{ceiling, segmentOf}
 use Rattle.reconstructor_handshake.specs.Step.{StepParts, stepTold, newHandshake, stepped}
-use Rattle.host_reads.specs.Answers.{Answered, answered}
-use Rattle.host_handshake.specs.Steps.{handshakeWords, handshakeOf, handshakeLeft, stepSets}
+use Rattle.host_answers.specs.Answers.{Answered, answered}
+use Rattle.host_handshake.specs.HandshakeWords.{handshakeWords, handshakeOf, handshakeLeft, stepSets}
 
 -- the answer, and the lent words afterwards
 pub record Call : Type 0 where

@@ -6,8 +6,8 @@ use Prim.Native.Nat.{ℕ}
 use Rattle.queue.specs.declared.QueueError.{QueueError}
 use Rattle.queue.specs.declared.QueueError.the-variants as errors
 use Rattle.queue.specs.Numbers.{queueErrorTold}
-use Rattle.host_reads.specs.Answers.{answered, toldIn}
-use Rattle.host_reads.proofs.Refusals.{view-refused}
+use Rattle.host_answers.specs.Answers.{answered, toldIn}
+use Rattle.host_answers.proofs.Refusals.{view-refused}
 
 pub queue-refused : (e : QueueError) (out : List ℕ) → toldIn (queueErrorTold e) out ≡ answered (queueErrorTold e .number) out
 queue-refused (errors.View e) out = view-refused e out

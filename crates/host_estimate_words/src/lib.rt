@@ -1,5 +1,5 @@
 // An estimate from words and as words, and a volume ahead as words; the layouts are beside the answers' enums (crate `queue`, specs/Numbers.antt).
-use host_reads::give;
+use host_answers::give;
 use host_words::bits;
 use host_words::load_side;
 use host_words::side_word;
@@ -17,7 +17,7 @@ ghost use mathlib.Core.List.{[], _∷_};
 ghost use Prim.Native.Nat.{_≤_};
 ghost use lib.ListN.{length};
 ghost use Rattle.queue.specs.Numbers.{anchorValues, estimateValues, estimateTold, assumptionWord, flagWord, aheadValues, aheadTold};
-ghost use Rattle.host_reads.specs.Answers.{answered, given, toldIn};
+ghost use Rattle.host_answers.specs.Answers.{answered, given, toldIn};
 ghost use Rattle.host_estimate_words.specs.Estimates.{estimateWords, anchorOf, estimateOf};
 
 // Words of an estimate.

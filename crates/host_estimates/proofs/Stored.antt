@@ -26,7 +26,7 @@ use Rattle.queue.specs.declared.EstimateAnswer.{EstimateAnswer}
 use Rattle.queue.specs.declared.EstimateAnswer.the-variants as estimates
 use Rattle.queue.specs.Numbers.{estimateTold}
 use Rattle.queue.specs.Estimates.{EstimateParts, estimateLeaves, hypothetical, listed, estimated, queueEstimate}
-use Rattle.host_reads.specs.Answers.{Answered, answered, toldIn, lastly}
+use Rattle.host_answers.specs.Answers.{Answered, answered, toldIn, lastly}
 use Rattle.host_estimates.specs.Estimates.{estimateCalled, afterEstimate}
 
 pub estimate-stored : (k : ℕ) (l e l₀ e₀ : List ℕ) → 8 ≤ length e₀ → (a : EstimateAnswer) (r : EstimateParts) → answered k e ≡ toldIn (estimateTold a) e₀ → estimateLeaves a l ≡ r

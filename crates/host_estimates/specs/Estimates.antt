@@ -13,7 +13,7 @@ use Rattle.host_words.specs.Block.{bookOf}
 use Rattle.queue.specs.Numbers.{estimateTold, aheadTold}
 use Rattle.queue.specs.Estimates.{EstimateParts, queueEstimate, queueEstimateOwn, volumeAhead}
 use Rattle.host_boundary.specs.Boundary.{noBit, noEstimate, boundary, unlessTurned}
-use Rattle.host_reads.specs.Answers.{Answered, answered, toldIn, lastly}
+use Rattle.host_answers.specs.Answers.{Answered, answered, toldIn, lastly}
 use Rattle.host_estimate_words.specs.Estimates.{estimateWords, estimateOf}
 
 pub record EstimateCall : Type 0 where

@@ -1,4 +1,5 @@
 // The queue estimates of a book whose state is words: those that `host` exports.
+use host_answers::unwritten;
 use host_boundary::boundary;
 use host_boundary::no_bit;
 use host_boundary::no_estimate;
@@ -6,13 +7,12 @@ use host_estimate_words::ESTIMATE_WORDS;
 use host_estimate_words::load_estimate;
 use host_estimate_words::store_ahead;
 use host_estimate_words::store_estimate;
-use host_reads::unwritten;
 use host_words::load_book;
 use host_words::load_side;
 use host_words::signed;
 use message::OrderId;
 ghost use mathlib.Core.Path.{_≡_};
-ghost use Rattle.host_reads.specs.Answers.{answered};
+ghost use Rattle.host_answers.specs.Answers.{answered};
 ghost use Rattle.host_estimates.specs.Estimates.{estimateCalled, estimateCall, ownCall, aheadCall};
 
 pub fn queue_estimate(

@@ -9,7 +9,7 @@ use borrow.Author.Tests.{eqb-true, eqb-false, ltb-false}
 use lib.Dec.{eqb, ltb}
 use lib.ListN.{length, getD}
 use Rattle.reconstructor_handshake.specs.declared.Handshake.{Handshake}
-use Rattle.host_handshake.specs.Steps.{handshakeOf, endedWord, handshakeLeft}
+use Rattle.host_handshake.specs.HandshakeWords.{handshakeOf, endedWord, handshakeLeft}
 
 ended-back : (ended : Bool) → not (eqb (endedWord ended) 0) ≡ ended
 ended-back false = refl

@@ -7,7 +7,7 @@ use reconstructor_segments::SegmentName;
 ghost use mathlib.Core.Path.{_≡_};
 ghost use Prim.Native.Nat.{_≤_};
 ghost use lib.ListN.{length};
-ghost use Rattle.host_handshake.specs.Steps.{handshakeWords, handshakeOf, endedWord, handshakeLeft, stepSets};
+ghost use Rattle.host_handshake.specs.HandshakeWords.{handshakeWords, handshakeOf, endedWord, handshakeLeft, stepSets};
 
 // The words of a handshake.
 pub const HANDSHAKE_WORDS: usize = 4;

@@ -18,7 +18,7 @@ use Rattle.reconstructor_reads.specs.declared.LevelAnswer.{LevelAnswer}
 use Rattle.reconstructor_reads.specs.declared.StaleAnswer.{StaleAnswer}
 use Rattle.reconstructor_reads.specs.Numbers.{shownTold, levelTold, staleTold}
 use Rattle.reconstructor_reads.specs.LevelReads.{Shows, shows, LevelRead, leaves, levelRead, StaleRead, leavesStale, staleRead}
-use Rattle.host_reads.specs.Answers.{Answered, answered, toldIn, lastly}
+use Rattle.host_answers.specs.Answers.{Answered, answered, toldIn, lastly}
 use Rattle.host_levels.specs.Levels.{levelCalled, afterLevel, afterStale}
 
 module _ (k : ℕ) (sc out count sc₀ out₀ count₀ : List ℕ) (h : 1 ≤ length count₀) where

@@ -15,7 +15,7 @@ use Rattle.host_words.specs.Block.{bookOf}
 use Rattle.reconstructor_reads.specs.Numbers.{levelTold, staleTold}
 use Rattle.reconstructor_reads.specs.LevelReads.{LevelRead, StaleRead, levelQueue, priorityProfile, l2, staleL2}
 use Rattle.host_boundary.specs.Boundary.{noBit, boundary, unlessTurned}
-use Rattle.host_reads.specs.Answers.{toldIn, lastly}
+use Rattle.host_answers.specs.Answers.{toldIn, lastly}
 
 -- the answer, and the lent words afterwards
 pub record LevelCall : Type 0 where

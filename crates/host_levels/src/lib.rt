@@ -1,10 +1,10 @@
 // The level reads of a book whose state is words: those that `host` exports.
+use host_answers::store_level;
+use host_answers::store_stale;
+use host_answers::unwritten;
 use host_boundary::boundary;
 use host_boundary::no_bit;
 use host_boundary::scratch_short;
-use host_reads::store_level;
-use host_reads::store_stale;
-use host_reads::unwritten;
 use host_words::load_book;
 use host_words::load_side;
 use host_words::signed;
@@ -24,7 +24,7 @@ ghost use Rattle.reconstructor_reads.specs.declared.Shown.the-variants.{OutputT
 ghost use Rattle.reconstructor_reads.specs.Numbers.{staleTold};
 ghost use Rattle.reconstructor_reads.specs.LevelReads.{shows, staleRead};
 ghost use Rattle.host_boundary.specs.Boundary.{noBit, boundary};
-ghost use Rattle.host_reads.specs.Answers.{lastly};
+ghost use Rattle.host_answers.specs.Answers.{lastly};
 ghost use Rattle.host_levels.specs.Levels.{levelCalled, queueCall, profileCall, l2Call, staleCall};
 
 // What the words of a level read are turned away for.

@@ -13,7 +13,7 @@ use Rattle.piece.specs.declared.PieceError.the-variants.{NotAPiece, OutOfRange}
 use Rattle.piece.specs.Piece.{pieceNumber}
 use Rattle.piece.specs.Words.{messageList}
 use Rattle.host_words.proofs.Puts.{length-event}
-use Rattle.host_reads.specs.Answers.{answered, given, toldIn}
+use Rattle.host_answers.specs.Answers.{answered, given, toldIn}
 
 pub given-none : (values out : List ℕ) (n : ℕ) → length values ≡ n → length out < n → given values out ≡ answered 7 out
 given-none values out n e h = rw (lt-ltb (length out) (length values) (omega (arith, e, h)))

@@ -8,7 +8,7 @@ use Rattle.message.specs.declared.SnapshotOrder.{SnapshotOrder}
 use Rattle.piece.specs.declared.ReadMessage.{ReadMessage}
 use Rattle.piece.specs.declared.ReadSnapshot.{ReadSnapshot}
 use Rattle.piece.specs.Words.{orderWords, readMessageTold, readSnapshotTold}
-use Rattle.host_reads.specs.Answers.{toldIn}
+use Rattle.host_answers.specs.Answers.{toldIn}
 
 abbrev pub messageNumber : List ℕ → ReadMessage → ℕ
 messageNumber out r = toldIn (readMessageTold r) out .number

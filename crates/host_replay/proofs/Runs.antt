@@ -22,12 +22,12 @@ use Rattle.reconstructor_state.specs.declared.BookReconstructor.{BookReconstruc
 use Rattle.reconstructor_state.specs.State.{ceiling}
 use Rattle.reconstructor.specs.declared.Work.{Work}
 use Rattle.reconstructor.specs.Applied.{Worked, worked, Parts, appliedTo, applied, putBack}
-use Rattle.reconstructor.specs.Steps.{trustedTo}
+use Rattle.reconstructor.specs.Inner.{trustedTo}
 use Rattle.reconstructor_answers.specs.declared.StateError.{StateError}
 use Rattle.reconstructor_answers.specs.Numbers.{stateErrorNumber}
 use Rattle.reconstructor_checks.specs.declared.Checked.{Checked}
 use Rattle.reconstructor_checks.specs.declared.Checked.the-variants.{Passed, Refused}
-use Rattle.reconstructor_checks.specs.Own.{bookRefusal, checked, Usable, Trusted}
+use Rattle.reconstructor_checks.specs.StateChecks.{bookRefusal, checked, Usable, Trusted}
 use Rattle.host_records.specs.Records.{recordsIn, recordsOf, relaid}
 use Rattle.host_records.proofs.Records.{length-records}
 use Rattle.reconstructor_answers.specs.Numbers.{answerNumber}
@@ -35,7 +35,7 @@ use Rattle.host_words.specs.Block.{bookOf, messageOf, restored, setsStatus}
 use Rattle.host_boundary.specs.Boundary.{noMessage, noBook, boundary}
 use Rattle.host_calls.specs.Calls.{Call, called, afterApply, applyCall}
 use Rattle.host_replay.specs.Replay.{Run, then, run, ReplayCall, replayCalled, countOf, afterRun, replayCall, Ready, Runs}
-use Rattle.reconstructor_checks.proofs.Own.{usable, trusted-under, sound, said, said-none}
+use Rattle.reconstructor_checks.proofs.StateChecks.{usable, trusted-under, sound, said, said-none}
 use Rattle.reconstructor.proofs.ByValue.{applied-trusted, applied-trusted-to}
 use Rattle.reconstructor.proofs.Kept.{usable-kept, indexed-kept}
 use Rattle.host_boundary.proofs.Passed as Boundary

@@ -13,7 +13,7 @@ use Rattle.book_index.specs.Index.{Indexed}
 use Rattle.reconstructor_answers.specs.declared.StateError.{StateError}
 use Rattle.reconstructor_answers.specs.Numbers.{stateErrorNumber}
 use Rattle.reconstructor_state.specs.State.{ceiling}
-use Rattle.reconstructor_checks.specs.Own.{bookRefusal, Usable}
+use Rattle.reconstructor_checks.specs.StateChecks.{bookRefusal, Usable}
 use Rattle.host_records.specs.Records.{recordsIn}
 use Rattle.host_words.specs.Block.{stateWords, bookOf}
 use Rattle.host_boundary.specs.Boundary.{noBook, unlessTurned}

@@ -18,7 +18,7 @@ use host_words::store_book;
 use piece::MESSAGE_WORDS;
 use reconstructor_handshake::Handshake;
 ghost use mathlib.Core.Path.{_≡_};
-ghost use Rattle.host_reads.specs.Answers.{answered};
+ghost use Rattle.host_answers.specs.Answers.{answered};
 ghost use Rattle.host_calls.specs.Calls.{handshakeCall, stepCalled, stepCall};
 
 pub fn new_handshake(state: &[u64], handshake: &mut [u64]) -> u64

@@ -10,7 +10,7 @@ use Rattle.reconstructor_view.specs.Numbers.{sequenceTold, bestTold, auditedTol
 use Rattle.reconstructor_view.specs.ValueReads.{lastSequence, bestRead, auditRead, invalidationOf, segmentRead}
 use Rattle.host_boundary.specs.Boundary.{boundary, ownBoundary, unlessTurned}
 use Rattle.host_records.specs.Records.{recordsOf}
-use Rattle.host_reads.specs.Answers.{Answered, answered, toldIn}
+use Rattle.host_answers.specs.Answers.{Answered, answered, toldIn}
 
 unfoldable pub lastCall : List ℕ → List ℕ → List ℕ → Answered
 lastCall st ws out =

@@ -1,13 +1,13 @@
 // The reads of a book whose state is words, those whose answer is a value: of those that `host` exports.
+use host_answers::store_best;
+use host_answers::store_invalidation;
+use host_answers::store_last;
+use host_answers::store_segment;
 use host_boundary::boundary;
 use host_boundary::own_boundary;
-use host_reads::store_best;
-use host_reads::store_invalidation;
-use host_reads::store_last;
-use host_reads::store_segment;
 use host_words::load_book;
 ghost use mathlib.Core.Path.{_≡_};
-ghost use Rattle.host_reads.specs.Answers.{answered};
+ghost use Rattle.host_answers.specs.Answers.{answered};
 ghost use Rattle.host_views.specs.Views.{lastCall, bestCall, auditCall, invalidationCall, segmentCall};
 
 pub fn last_sequence(state: &[u64], rows: &[u64], out: &mut [u64]) -> u64

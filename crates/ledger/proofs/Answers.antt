@@ -30,8 +30,8 @@ use Rattle.reconstructor_state.specs.declared.Status.the-variants as statuses
 use Rattle.reconstructor_state.specs.Checks.{check, first}
 use Rattle.reconstructor_state.specs.State.{ceiling, View, lastOf}
 use Rattle.reconstructor_state.proofs.Checks.{fails, goes-on, first-fails, first-on}
-use Rattle.reconstructor_checks.specs.Own.{overCeiling, memoryShort, broken}
-use Rattle.reconstructor_checks.proofs.Own.{sound, memory-room}
+use Rattle.reconstructor_checks.specs.StateChecks.{overCeiling, memoryShort, broken}
+use Rattle.reconstructor_checks.proofs.StateChecks.{sound, memory-room}
 use Rattle.reconstructor_view.specs.declared.ViewError.{ViewError}
 use Rattle.reconstructor_view.specs.declared.ViewError.the-variants as errors
 use Rattle.reconstructor_view.specs.declared.SequenceAnswer.the-variants as sequences

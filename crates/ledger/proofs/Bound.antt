@@ -10,8 +10,8 @@ use Rattle.book.specs.Line.{volume}
 use Rattle.book.specs.Memory.{Extent, ordersOf}
 use Rattle.book.proofs.Kept.{level-bound}
 use Rattle.reconstructor_state.specs.State.{ceiling, View}
-use Rattle.reconstructor_checks.specs.Own.{overCeiling, tooShort}
-use Rattle.reconstructor_checks.proofs.Own.{sound, orders-within}
+use Rattle.reconstructor_checks.specs.StateChecks.{overCeiling, tooShort}
+use Rattle.reconstructor_checks.proofs.StateChecks.{sound, orders-within}
 use Rattle.ledger.specs.Ledger.{Config, Call, bootstrap, apply, step, read, blank, viewBy, feedView}
 use Rattle.ledger.specs.World.{World}
 use Rattle.ledger.proofs.Follow.{Follows, viewAll, early-apply, early-step, early-boot}

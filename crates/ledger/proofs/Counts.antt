@@ -24,7 +24,7 @@ use Rattle.reconstructor_segments.specs.Segments.{lastSegment}
 use Rattle.reconstructor_state.specs.declared.BookReconstructor.{BookReconstructor}
 use Rattle.reconstructor_state.specs.State.{ceiling, View, Lengths, lengthsOf, lastOf, segmentOf}
 use Rattle.reconstructor_state.proofs.Checks.{fails, goes-on, first-fails, first-on}
-use Rattle.reconstructor_checks.specs.Own.{Usable, overCeiling, tooShort}
+use Rattle.reconstructor_checks.specs.StateChecks.{Usable, overCeiling, tooShort}
 use Rattle.reconstructor_plan.specs.Rules.{eventDeed}
 use Rattle.reconstructor.specs.Refusals.{gateRefusal, turnRefusal}
 use Rattle.reconstructor.specs.Applied.{refusedReply, invalidatedReply, acceptedReply, accepted as acceptedCore, decided, answered, bookGate, appliedTo, applied}

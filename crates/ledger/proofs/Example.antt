@@ -27,7 +27,7 @@ use Rattle.reconstructor_counts.specs.Counts.{saturated}
 use Rattle.reconstructor_segments.specs.declared.Segment.{Segment}
 use Rattle.reconstructor_state.specs.Checks.{check, first}
 use Rattle.reconstructor_state.specs.State.{ceiling, Lengths, limitedRules}
-use Rattle.reconstructor_checks.specs.Own.{broken, stateRefusal}
+use Rattle.reconstructor_checks.specs.StateChecks.{broken, stateRefusal}
 use Rattle.reconstructor_plan.specs.Rules.{openRefusal, makerRefusal, eventRefusal, effect, counterOf, eventDeed}
 use Rattle.reconstructor.specs.Refusals.{admitRefusal, gateRefusal, turnRefusal}
 use Rattle.reconstructor.specs.Applied.{refusedReply, invalidatedReply, acceptedReply, accepted as acceptedCore, decided, answered, appliedTo, applied}

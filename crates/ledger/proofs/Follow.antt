@@ -27,8 +27,8 @@ use Rattle.reconstructor_state.specs.declared.VenueRules.{VenueRules}
 use Rattle.reconstructor_state.specs.declared.BookReconstructor.{BookReconstructor}
 use Rattle.reconstructor_state.specs.State.{ceiling, View, Lengths, lengthsOf, newBook}
 use Rattle.reconstructor_state.proofs.Checks.{fails, goes-on, first-fails}
-use Rattle.reconstructor_checks.specs.Own.{Usable, broken, overCeiling, memoryShort, tooShort, stateRefusal, bookRefusal}
-use Rattle.reconstructor_checks.proofs.Own.{sound, memory-room, usable-none}
+use Rattle.reconstructor_checks.specs.StateChecks.{Usable, broken, overCeiling, memoryShort, tooShort, stateRefusal, bookRefusal}
+use Rattle.reconstructor_checks.proofs.StateChecks.{sound, memory-room, usable-none}
 use Rattle.reconstructor.specs.Refusals.{gateRefusal}
 use Rattle.reconstructor.specs.Applied.{applied}
 use Rattle.reconstructor.proofs.Laws.{gate-stops}

@@ -19,8 +19,8 @@ use Rattle.reconstructor_segments.specs.Segments.{lastSegment, relast, started}
 use Rattle.reconstructor_segments.proofs.Last.{length-relast}
 use Rattle.reconstructor_state.specs.declared.BookReconstructor.{BookReconstructor}
 use Rattle.reconstructor_state.specs.State.{ceiling, lastOf, segmentOf}
-use Rattle.reconstructor_checks.specs.Own.{Usable, broken}
-use Rattle.reconstructor_checks.proofs.Own.{sound, rows-lent, segments-lent}
+use Rattle.reconstructor_checks.specs.StateChecks.{Usable, broken}
+use Rattle.reconstructor_checks.proofs.StateChecks.{sound, rows-lent, segments-lent}
 use Rattle.reconstructor_plan.specs.Rules.{effect, eventDeed}
 use Rattle.reconstructor.specs.Refusals.{turnRefusal}
 use Rattle.reconstructor.specs.Applied.{refusedReply, invalidatedReply, acceptedReply, accepted as acceptedCore, decided, answered, bookGate, appliedTo, applied}

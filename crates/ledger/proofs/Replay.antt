@@ -21,7 +21,7 @@ use Rattle.reconstructor_state.specs.declared.VenueRules.{VenueRules}
 use Rattle.reconstructor_state.specs.declared.Status.{Status}
 use Rattle.reconstructor_state.specs.State.{ceiling, View, Lengths, lastOf}
 use Rattle.reconstructor_state.proofs.Checks.{passed, goes-on, first-passed, first-on}
-use Rattle.reconstructor_checks.specs.Own.{memoryShort, stateRefusal}
+use Rattle.reconstructor_checks.specs.StateChecks.{memoryShort, stateRefusal}
 use Rattle.reconstructor_plan.specs.Rules.{effect}
 use Rattle.reconstructor.specs.Refusals.{statusRefusal, admitRefusal, gateRefusal, turnRefusal}
 use Rattle.reconstructor_bootstrap.specs.declared.SnapshotAnswer.{SnapshotAnswer}

@@ -27,7 +27,7 @@ use Rattle.reconstructor_state.specs.declared.Status.the-variants as statuses
 use Rattle.reconstructor_answers.specs.declared.StateError.{StateError}
 use Rattle.reconstructor_view.specs.declared.ViewError.{ViewError}
 use Rattle.reconstructor_state.specs.State.{ceiling}
-use Rattle.reconstructor_checks.proofs.Own.{sound, memory-room}
+use Rattle.reconstructor_checks.proofs.StateChecks.{sound, memory-room}
 use Rattle.reconstructor_view.specs.ValueReads.{readRefusalOf, viewRefusalOf}
 use Rattle.reconstructor_view.proofs.Readable.{Readable, readable, valid-read}
 use Rattle.reconstructor_reads.specs.declared.Shown.{Shown}

@@ -30,8 +30,8 @@ use Rattle.reconstructor_state.specs.declared.VenueRules.{VenueRules}
 use Rattle.reconstructor_state.specs.declared.BookReconstructor.{BookReconstructor}
 use Rattle.reconstructor_state.specs.State.{ceiling, View, viewOf, viewWith, lengthsWith, lengthsOf, lastOf, withCounts}
 use Rattle.reconstructor_state.proofs.Checks.{fails, goes-on, first-on}
-use Rattle.reconstructor_checks.specs.Own.{Usable, broken, stateRefusal}
-use Rattle.reconstructor_checks.proofs.Own.{usable-none}
+use Rattle.reconstructor_checks.specs.StateChecks.{Usable, broken, stateRefusal}
+use Rattle.reconstructor_checks.proofs.StateChecks.{usable-none}
 use Rattle.reconstructor.specs.Refusals.{gateRefusal, turnRefusal}
 use Rattle.reconstructor.specs.Applied.{refusedBook, refusedReply, invalidatedReply, acceptedReply, accepted as acceptedCore, nextSegment, decided, answered, bookGate, appliedTo, applied}
 use Rattle.reconstructor.proofs.Kept.{refusal-counts, usable-kept, accepted-line}

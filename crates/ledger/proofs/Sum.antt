@@ -16,7 +16,7 @@ use Rattle.reconstructor_state.specs.State.{View, lastOf}
 use Rattle.ledger.specs.Ledger.{Config, Call, bootstrap, apply, step, read, Ledger, blank, fresh, feed, feedAll}
 use Rattle.ledger.specs.World.{World, run, Lendable, freshWorld, lineAt}
 use Rattle.ledger.specs.Kept.{kept}
-use Rattle.ledger.specs.Sum.{standingOf, standingAt, Stand, Alike, Fallen, figuresOf, Read, numbered, SumRule, Demand3}
+use Rattle.ledger.specs.Sum.{standingOf, standingAt, Stand, Alike, WhenInvalid, figuresOf, Readings, numbered, SumRule, Demand3}
 use Rattle.ledger.proofs.Volumes.{Tallies}
 use Rattle.ledger.proofs.Accept.{all-tallies, fresh-tallies}
 use Rattle.ledger.proofs.Follow.{Follows, never-three, viewAll, follow-all, fresh-follows, line-is}
@@ -79,7 +79,7 @@ module _ (c : Config) (mem : Memory) (sg : List Segment) where
         start = λ z. ap (λ (k : ℕ). lastSegment (after ks .segments) k .«start_seq») (sym e) ∙ f .stands .start (omega (arith, e, z));
       }
 
-  read-facts : (ks : List Call) → Lendable (extentOf mem) (length sg) ks → Read (c .rules) (after ks) (feedAll c fresh ks)
+  read-facts : (ks : List Call) → Lendable (extentOf mem) (length sg) ks → Readings (c .rules) (after ks) (feedAll c fresh ks)
   read-facts ks l =
       let w : World = after ks in
       let v : View = feedAll c fresh ks .view in
@@ -117,10 +117,10 @@ module _ (c : Config) (mem : Memory) (sg : List Segment) where
         never-three = λ n f.
             never-three c (extentOf mem) (length sg) (after ks) (viewAll c blank ks)
             (follow-all c (extentOf mem) (length sg) (freshWorld c mem sg) blank ks (fresh-follows c mem sg) l) n f;
-        fallen = λ h. fall (stale-line c ks (ap (λ (x : View). standingOf (x .status)) (sym (feed-view c fresh ks)) ∙ h));
+        when-invalid = λ h. fall (stale-line c ks (ap (λ (x : View). standingOf (x .status)) (sym (feed-view c fresh ks)) ∙ h));
       }
     where
-      fall : Stale c ks → Fallen c (freshWorld c mem sg) ks
+      fall : Stale c ks → WhenInvalid c (freshWorld c mem sg) ks
       fall t =
           let l₁ : Lendable (extentOf mem) (length sg) (t .before ++ (t .bad ∷ t .after)) = subst (Lendable (extentOf mem) (length sg)) (t .parts) l in
           let l₂ : Lendable (extentOf mem) (length sg) (t .before) = lend-front _ _ (t .before) (t .bad ∷ t .after) l₁ in

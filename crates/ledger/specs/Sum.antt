@@ -23,7 +23,7 @@ use Rattle.reconstructor_state.specs.declared.BookReconstructor.{BookReconstruc
 use Rattle.reconstructor_segments.specs.Segments.{lastSegment}
 use Rattle.reconstructor_state.specs.declared.VenueRules.{VenueRules}
 use Rattle.reconstructor_state.specs.State.{ceiling, Lengths, lastOf}
-use Rattle.reconstructor_checks.specs.Own.{overCeiling, memoryShort, bookRefusal}
+use Rattle.reconstructor_checks.specs.StateChecks.{overCeiling, memoryShort, bookRefusal}
 use Rattle.reconstructor_bootstrap.specs.Snapshot.{snapshotLine}
 use Rattle.reconstructor_view.specs.declared.SequenceAnswer.the-variants as sequences
 use Rattle.reconstructor_view.specs.Numbers.{sequenceTold, bestTold, auditedTold}
@@ -109,7 +109,7 @@ pub record TurnedAway (v : VenueRules) (b : BookReconstructor) (mem : Memory) : 
   pub volume-ahead : (q : QueueEstimate) (ahead : List ℕ) → aheadTold (volumeAhead ceiling b mem q ahead) .number ≡ invalidNumber v (extentOf mem) false
 
 -- what is read of a book, lent the front of its memory and any scratch and output
-pub record Read (v : VenueRules) (w : World) (l : Ledger) : Type 0 where
+pub record Readings (v : VenueRules) (w : World) (l : Ledger) : Type 0 where
   -- "the queue and profile reads .. give exactly these where asked"
   pub queue-read : (n : Extent) (sc : List ℕ) (s : L3Side) (z : ℤ) (out : List ℕ) (k : ℕ)
       → levelQueue ceiling (w .book) (front n (w .memory)) sc s z out .answer ≡ levels.Shown (Entries k)
@@ -138,13 +138,13 @@ pub record Read (v : VenueRules) (w : World) (l : Ledger) : Type 0 where
       → staleL2 ceiling (w .book) (front n (w .memory)) sc s out .answer ≡ stales.Shown (Entries (length (prices s (l .view .line))))
 
 -- the stale one "gives exactly the volumes that stood before that message"
-abbrev pub StaleRead : World → World → Type 0
-StaleRead w x =
+abbrev pub StaleReading : World → World → Type 0
+StaleReading w x =
     (n : Extent) (sc : List ℕ) (s : L3Side) (out : List ℕ) (k : ℕ) → staleL2 ceiling (w .book) (front n (w .memory)) sc s out .answer ≡ stales.Shown (Entries k)
     → l2Said (take (l2Words * k) (staleL2 ceiling (w .book) (front n (w .memory)) sc s out .out)) ≡ figuresOf s (prices s (lineAt x)) (λ (t : L3Side) (p : ℕ). volumeAt t p x)
 
 -- an invalid book's calls: those before the invalidating one, that one, and those since, of which none counted; what rests is what stood before that message
-pub record Fallen (c : Config) (start : World) (ks : List Call) : Type 0 where
+pub record WhenInvalid (c : Config) (start : World) (ks : List Call) : Type 0 where
   pub before : List Call
   pub bad : Call
   pub after : List Call
@@ -155,7 +155,7 @@ pub record Fallen (c : Config) (start : World) (ks : List Call) : Type 0 where
   pub since : (n : ℕ) → standingAt (run start (before ++ (bad ∷ take n after))) ≡ invalid
   pub nothing : kept c ks ≡ kept c before
   pub stale : Alike (run start ks) (run start before)
-  pub stale-read : StaleRead (run start ks) (run start before)
+  pub stale-read : StaleReading (run start ks) (run start before)
 
 -- "a fresh book with the same product and rules": its number is any
 abbrev pub numbered : Config → ℕ → Config
@@ -181,12 +181,12 @@ pub record SumRule (c : Config) (mem : Memory) (sg : List Segment) (ks : List Ca
   pub afresh : (k : ℕ) (mem′ : Memory) (sg′ : List Segment) → Lendable (extentOf mem′) (length sg′) (kept c ks)
       → Alike (run (freshWorld c mem sg) ks) (run (freshWorld (numbered c k) mem′ sg′) (kept c ks))
   -- "the volumes that stood before that message" are those that rest, and that the stale read gives
-  pub fallen : ledgerStanding (feedAll c fresh ks) ≡ invalid → Fallen c (freshWorld c mem sg) ks
+  pub when-invalid : ledgerStanding (feedAll c fresh ks) ≡ invalid → WhenInvalid c (freshWorld c mem sg) ks
   -- 01, The ledger: "3 never arises here", whatever the next call is lent
   pub never-three : (n : Lengths) → Fits (extentOf mem) (length sg) n
       → bookRefusal ceiling (run (freshWorld c mem sg) ks .book) (lentMemory n (run (freshWorld c mem sg) ks)) (length (lentSegments n (run (freshWorld c mem sg) ks))) ≡ some MalformedBook → ⊥
   -- the reads of that book
-  pub reads : Read (c .rules) (run (freshWorld c mem sg) ks) (feedAll c fresh ks)
+  pub reads : Readings (c .rules) (run (freshWorld c mem sg) ks) (feedAll c fresh ks)
 
 -- the one claim: "any list of calls on one book .. from a fresh one", of any product, rules and number, with anything in its memory, each call lent no more than there is
 abbrev pub Demand3 : Type 0

@@ -9,10 +9,10 @@ use Rattle.book.specs.Memory.{Memory}
 use Rattle.reconstructor_segments.specs.declared.Segment.{Segment}
 use Rattle.reconstructor_segments.specs.Segments.{lastSegment, relast}
 use Rattle.reconstructor_state.specs.declared.BookReconstructor.{BookReconstructor}
-use Rattle.reconstructor_checks.specs.Own.{Usable}
+use Rattle.reconstructor_checks.specs.StateChecks.{Usable}
 use Rattle.reconstructor.specs.declared.Reply.{Reply}
 use Rattle.reconstructor.specs.Applied.{Core, core, withRecord, nextSegment, answered, appliedTo, applied, putBack}
-use Rattle.reconstructor.specs.Steps.{trustedTo}
+use Rattle.reconstructor.specs.Inner.{trustedTo}
 use Rattle.reconstructor.proofs.Laws.{gate-trusted}
 
 -- what the core leaves, with what it makes of the record

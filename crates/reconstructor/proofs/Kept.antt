@@ -31,7 +31,7 @@ use Rattle.reconstructor_answers.specs.declared.ApplyAnswer.{ApplyAnswer}
 use Rattle.reconstructor_state.specs.declared.BookReconstructor.{BookReconstructor}
 use Rattle.reconstructor_answers.specs.Numbers.{answerNumber}
 use Rattle.reconstructor_state.specs.State.{with, withCounts, lastOf}
-use Rattle.reconstructor_checks.specs.Own.{broken, Usable}
+use Rattle.reconstructor_checks.specs.StateChecks.{broken, Usable}
 use Rattle.reconstructor_plan.specs.Rules.{eventRefusal, eventDeed, effect}
 use Rattle.reconstructor.specs.Refusals.{admitRefusal, turnRefusal}
 use Rattle.reconstructor.specs.Applied.{refusedBook, refusedReply, invalidatedReply, acceptedReply, accepted, decided, atTurn, answered, bookGate, appliedTo, applied, Worked, Parts}
@@ -39,7 +39,7 @@ use Rattle.book.proofs.Memory.{line-by}
 use Rattle.book.proofs.Rows.{length-rows}
 use Rattle.book.proofs.Stored.{rows-stored, length-stored}
 use Rattle.reconstructor_state.proofs.Checks.{passed, first-passed}
-use Rattle.reconstructor_checks.proofs.Own.{sound, kept, rows-lent, has-segment}
+use Rattle.reconstructor_checks.proofs.StateChecks.{sound, kept, rows-lent, has-segment}
 use Rattle.reconstructor_plan.proofs.Kept.{event-formed}
 use Rattle.reconstructor_plan.proofs.Indexed.{noted-marks, event-marked, event-bounded}
 use Rattle.reconstructor.proofs.Laws.{admitted-valid, gate-trusted}

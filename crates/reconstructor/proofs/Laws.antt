@@ -17,14 +17,14 @@ use Rattle.reconstructor_state.specs.declared.Status.the-variants.{Empty, Valid
 use Rattle.reconstructor_state.specs.declared.BookReconstructor.{BookReconstructor}
 use Rattle.reconstructor_state.specs.State.{lastOf}
 use Rattle.reconstructor_segments.specs.declared.Segment.{Segment}
-use Rattle.reconstructor_checks.specs.Own.{bookRefusal, Usable, Trusted}
+use Rattle.reconstructor_checks.specs.StateChecks.{bookRefusal, Usable, Trusted}
 use Rattle.reconstructor_plan.specs.Plans.{Ready, Outcome}
 use Rattle.reconstructor.specs.declared.Reply.{Reply}
 use Rattle.reconstructor.specs.Refusals.{statusRefusal, admitRefusal, gateRefusal}
 use Rattle.reconstructor.specs.Applied.{core, acceptedReply, bookGate}
-use Rattle.reconstructor.specs.Steps.{committed}
+use Rattle.reconstructor.specs.Inner.{committed}
 use Rattle.reconstructor_state.proofs.Checks.{passed, first-fails, first-on}
-use Rattle.reconstructor_checks.proofs.Own.{sound, orders-within, memory-room, usable-none}
+use Rattle.reconstructor_checks.proofs.StateChecks.{sound, orders-within, memory-room, usable-none}
 
 -- ---- a plan committed
 

@@ -18,7 +18,7 @@ use Rattle.reconstructor_state.specs.declared.BookReconstructor.{BookReconstruc
 use Rattle.reconstructor_counts.specs.Counts.{counted}
 use Rattle.reconstructor_segments.specs.Segments.{lastSegment, relast, extended, ended}
 use Rattle.reconstructor_state.specs.State.{with, withCounts, withStatus, lastOf, viewWith, lengthsWith}
-use Rattle.reconstructor_checks.specs.Own.{broken}
+use Rattle.reconstructor_checks.specs.StateChecks.{broken}
 use Rattle.reconstructor_plan.specs.Rules.{Deed, answerBy, eventDeed}
 use Rattle.reconstructor.specs.declared.Reply.{Reply}
 use Rattle.reconstructor.specs.declared.Work.{Work}

@@ -1,3 +1,3 @@
 pub mod Refusals
 pub mod Applied
-pub mod Steps
+pub mod Inner

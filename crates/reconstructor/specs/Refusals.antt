@@ -19,7 +19,7 @@ use Rattle.reconstructor_answers.specs.declared.ApplyAnswer.the-variants.{Unusa
 use Rattle.reconstructor_state.specs.Checks.{check, first}
 use Rattle.reconstructor_counts.specs.Counts.{largest}
 use Rattle.reconstructor_state.specs.State.{View, Lengths}
-use Rattle.reconstructor_checks.specs.Own.{stateRefusal}
+use Rattle.reconstructor_checks.specs.StateChecks.{stateRefusal}
 use Rattle.reconstructor_plan.specs.Rules.{eventRefusal}
 
 -- "no snapshot yet is 15; an invalid book is 17", which carries the invalidation in force

@@ -21,12 +21,12 @@ ghost use Rattle.book.specs.Memory.{memory, lineIn};
 ghost use Rattle.book_index.specs.Index.{Indexed};
 ghost use Rattle.reconstructor_answers.specs.Numbers.{answerTold};
 ghost use Rattle.reconstructor_state.specs.State.{ceiling, lastOf};
-ghost use Rattle.reconstructor_checks.specs.Own.{Trusted};
+ghost use Rattle.reconstructor_checks.specs.StateChecks.{Trusted};
 ghost use Rattle.reconstructor_plan.specs.Rules.{eventDeed};
 ghost use Rattle.reconstructor_plan.specs.Plans.{Ready, PlanFits, planOutcome};
 ghost use Rattle.reconstructor.specs.Refusals.{admitRefusal, turnRefusal};
 ghost use Rattle.reconstructor.specs.Applied.{refusedReply, invalidatedReply, acceptedReply, core, worked, atTurn, nextSegment, appliedTo, leaves, applied};
-ghost use Rattle.reconstructor.specs.Steps.{AdmitsFor, TurnsFor, committed, trustedTo, replyOf};
+ghost use Rattle.reconstructor.specs.Inner.{AdmitsFor, TurnsFor, committed, trustedTo, replyOf};
 
 // What a call leaves of the state, with its answer.
 pub struct Reply {

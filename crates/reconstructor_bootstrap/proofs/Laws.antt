@@ -32,7 +32,7 @@ use Rattle.reconstructor_segments.specs.declared.Segment.{Segment}
 use Rattle.reconstructor_segments.specs.Segments.{noSegment, lastSegment, relast, started}
 use Rattle.reconstructor_segments.proofs.Last.{length-relast, relast-same}
 use Rattle.reconstructor_state.specs.State.{viewWith, lengthsWith, withCounts}
-use Rattle.reconstructor_checks.specs.Own.{broken, bookRefusal, Usable}
+use Rattle.reconstructor_checks.specs.StateChecks.{broken, bookRefusal, Usable}
 use Rattle.reconstructor_bootstrap.specs.declared.SnapshotError.{SnapshotError}
 use Rattle.reconstructor_bootstrap.specs.declared.SnapshotError.the-variants.{WrongProduct, DuplicateId, InvalidValue, Crossed, CapacityExceeded}
 use Rattle.reconstructor_bootstrap.specs.declared.SnapshotAnswer.{SnapshotAnswer}
@@ -46,9 +46,9 @@ use Rattle.book.proofs.Kept.{snapshot-kept}
 use Rattle.book.proofs.Stored.{rows-stored, length-stored}
 use Rattle.message.proofs.Amounts.{in-range-most}
 use Rattle.reconstructor_state.proofs.Checks.{passed, first-passed}
-use Rattle.reconstructor_checks.proofs.Own.{usable, sound, rows-lent, segments-lent, kept}
+use Rattle.reconstructor_checks.proofs.StateChecks.{usable, sound, rows-lent, segments-lent, kept}
 use Rattle.reconstructor_bootstrap.proofs.Places.{line-places}
-use Rattle.reconstructor_bootstrap.proofs.Vetted.{someNotPositive, has-passed}
+use Rattle.reconstructor_bootstrap.proofs.InTurn.{someNotPositive, has-passed}
 use Rattle.reconstructor_bootstrap.proofs.Whole.{few-orders, length-snapshot}
 use Rattle.piece.specs.declared.PieceError.the-variants as pieces
 

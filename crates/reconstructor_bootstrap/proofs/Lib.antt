@@ -1,6 +1,6 @@
 pub mod Places
 pub mod Filled
-pub mod Vetted
+pub mod InTurn
 pub mod Whole
 pub mod Laws
 pub mod BootShell

@@ -20,7 +20,7 @@ use Rattle.reconstructor_answers.specs.declared.StateError.{StateError}
 use Rattle.reconstructor_state.specs.declared.BookReconstructor.{BookReconstructor}
 use Rattle.reconstructor_segments.specs.declared.Segment.{Segment}
 use Rattle.reconstructor_state.specs.State.{viewWith, lengthsWith}
-use Rattle.reconstructor_checks.specs.Own.{Usable, bookRefusal}
+use Rattle.reconstructor_checks.specs.StateChecks.{Usable, bookRefusal}
 use Rattle.reconstructor_bootstrap.specs.declared.SnapshotError.{SnapshotError}
 use Rattle.reconstructor_bootstrap.specs.declared.SnapshotAnswer.{SnapshotAnswer}
 use Rattle.reconstructor_bootstrap.specs.declared.SnapshotAnswer.the-variants.{Unusable, ListFull, Rejected}
@@ -30,7 +30,7 @@ use Rattle.reconstructor_bootstrap.specs.Places.{entriesFrom, rowsAt, Ro
 use Rattle.book.proofs.Kept.{line-snapshot}
 use Rattle.book.proofs.Stored.{rows-stored}
 use Rattle.reconstructor_state.proofs.Checks.{fails, goes-on, passed, first-fails, first-on}
-use Rattle.reconstructor_checks.proofs.Own.{orders-within, rows-lent, segments-lent, trusted, rows-ready}
+use Rattle.reconstructor_checks.proofs.StateChecks.{orders-within, rows-lent, segments-lent, trusted, rows-ready}
 use Rattle.reconstructor_bootstrap.proofs.Places.{rows-at-length, entries-length, line-places}
 
 -- ---- staged rows

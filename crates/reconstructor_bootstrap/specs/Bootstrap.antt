@@ -16,7 +16,7 @@ use Rattle.reconstructor_counts.specs.Counts.{counted}
 use Rattle.reconstructor_segments.specs.declared.Segment.{Segment}
 use Rattle.reconstructor_segments.specs.Segments.{noSegment, lastSegment, relast, started, superseded}
 use Rattle.reconstructor_state.specs.State.{withCounts, viewWith, lengthsWith}
-use Rattle.reconstructor_checks.specs.Own.{broken}
+use Rattle.reconstructor_checks.specs.StateChecks.{broken}
 use Rattle.reconstructor_bootstrap.specs.declared.SnapshotError.{SnapshotError}
 use Rattle.reconstructor_bootstrap.specs.declared.SnapshotAnswer.{SnapshotAnswer}
 use Rattle.reconstructor_bootstrap.specs.declared.SnapshotAnswer.the-variants.{Bootstrapped, Unusable, NotAPiece, AmountOutOfRange, ListFull, Rejected}

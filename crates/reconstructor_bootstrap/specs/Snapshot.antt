@@ -21,7 +21,7 @@ use Rattle.book.specs.Line.{Entry, rests, hasLevel, levels, crossed}
 use Rattle.reconstructor_state.specs.declared.VenueRules.{VenueRules}
 use Rattle.reconstructor_state.specs.Checks.{check, first}
 use Rattle.reconstructor_state.specs.State.{View, Lengths}
-use Rattle.reconstructor_checks.specs.Own.{stateRefusal}
+use Rattle.reconstructor_checks.specs.StateChecks.{stateRefusal}
 use Rattle.reconstructor_bootstrap.specs.declared.SnapshotError.{SnapshotError}
 use Rattle.reconstructor_bootstrap.specs.declared.SnapshotError.the-variants.{WrongProduct, DuplicateId, InvalidValue, Crossed, CapacityExceeded}
 use Rattle.reconstructor_bootstrap.specs.declared.SnapshotAnswer.{SnapshotAnswer}
@@ -48,17 +48,17 @@ abbrev pub noRoom : ℕ → List Entry → Entry → Bool
 noRoom maxLevels before e = not (hasLevel (e .side) (e .price) before) && leb maxLevels (levels before)
 
 -- "then each bid and then each ask in turn: 11, 12, 14 (levels)", and then what `last` says
-abbrev pub vet : ℕ → List Entry → List Entry → Option SnapshotError → Option SnapshotError
-vet maxLevels before [] last = last
-vet maxLevels before (e ∷ es) last =
+abbrev pub inTurn : ℕ → List Entry → List Entry → Option SnapshotError → Option SnapshotError
+inTurn maxLevels before [] last = last
+inTurn maxLevels before (e ∷ es) last =
     check (rests (e .id) before) DuplicateId
     (check (notPositive e) InvalidValue
     (check (noRoom maxLevels before e) CapacityExceeded
-    (vet maxLevels (before ++ (e ∷ [])) es last)))
+    (inTurn maxLevels (before ++ (e ∷ [])) es last)))
 
 -- 11 to 14 of the orders; "last 13": "snapshot bid ≥ ask"
 unfoldable pub lineRefusal : ℕ → List Entry → Option SnapshotError
-lineRefusal maxLevels line = vet maxLevels [] line (check (crossed line) Crossed none)
+lineRefusal maxLevels line = inTurn maxLevels [] line (check (crossed line) Crossed none)
 
 -- 10: "other product"; 14, of orders: "snapshot above a limit"; then the orders
 unfoldable pub snapshotRefusal : ProductId → VenueRules → L3Snapshot → List Entry → Option SnapshotError

@@ -23,7 +23,7 @@ ghost use Rattle.book.specs.Line.{rests, hasLevel};
 ghost use Rattle.book.specs.Rows.{Lent, mostRows, rowsOf, lineOf, idOf, sideOf, stored, snapshotKind, snapshotRow};
 ghost use Rattle.book.specs.Memory.{memory};
 ghost use Rattle.reconstructor_state.specs.State.{ceiling};
-ghost use Rattle.reconstructor_checks.specs.Own.{Usable};
+ghost use Rattle.reconstructor_checks.specs.StateChecks.{Usable};
 ghost use Rattle.reconstructor_bootstrap.specs.Numbers.{snapshotErrorNumber, snapshotTold, snapshotNumber};
 ghost use Rattle.reconstructor_bootstrap.specs.Snapshot.{snapshotLine, lineRefusal, snapshotRefusal, pieceAnswer};
 ghost use Rattle.reconstructor_bootstrap.specs.Bootstrap.{booted, leaves, refusedBook, refusedWork, bootedBook, closed, accepted, bootstrappedTo, bootstrapped, validated};
@@ -231,7 +231,7 @@ fn levels_added(rows: &[u64], i: usize, order: Resting) -> usize
 }
 
 // The number of the first order that is turned away, or 13: the plain search, each order against those before it.
-fn vet_rows(rows: &[u64], n: usize, max_levels: usize) -> Validated
+fn check_in_turn(rows: &[u64], n: usize, max_levels: usize) -> Validated
     requires { ⌜ Lent (now rows) n ⌝ }
     ensures { λ r. ⌜ r ≡ validated (lineRefusal «max_levels» (lineOf (rowsOf (now (rows .entry)) n))) ⌝ }
 {
@@ -264,7 +264,7 @@ fn validate_rows(rows: &[u64], n: usize, max_levels: usize) -> Validated
     ensures { λ r. ⌜ r ≡ validated (lineRefusal «max_levels» (lineOf (rowsOf (now (rows .entry)) n))) ⌝ }
 {
     if book_valid::rows_broken(rows, n, max_levels) {
-        return vet_rows(rows, n, max_levels);
+        return check_in_turn(rows, n, max_levels);
     }
     Validated::Fits
 }

@@ -8,7 +8,7 @@ ghost use mathlib.Core.Bool.{false};
 ghost use Prim.Native.Nat.{_≤_};
 ghost use Rattle.book.specs.Rows.{mostRows};
 ghost use Rattle.book.specs.Memory.{memory, extentOf};
-ghost use Rattle.reconstructor_checks.specs.Own.{overCeiling, memoryShort, unsettled, broken, bookRefusal, checked};
+ghost use Rattle.reconstructor_checks.specs.StateChecks.{overCeiling, memoryShort, unsettled, broken, bookRefusal, checked};
 
 // The answer of the own checks.
 pub enum Checked {

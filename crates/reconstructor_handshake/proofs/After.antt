@@ -11,7 +11,7 @@ use Rattle.reconstructor.specs.Applied.{Worked, worked}
 use Rattle.reconstructor_handshake.specs.declared.Handshake.{Handshake}
 use Rattle.reconstructor_handshake.specs.declared.StepAnswer.the-variants.{Stepped}
 use Rattle.reconstructor_handshake.specs.Step.{with, after, StepWorked, decided}
-use Rattle.reconstructor_handshake.specs.Trusted.{ends, appliedBy}
+use Rattle.reconstructor_handshake.specs.Inner.{ends, appliedBy}
 
 or-none : (b : Bool) → (b || false) ≡ b
 or-none true = refl

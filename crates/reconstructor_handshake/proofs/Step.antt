@@ -20,15 +20,15 @@ use Rattle.reconstructor_state.specs.declared.BookReconstructor.{BookReconstruc
 use Rattle.reconstructor_state.specs.State.{viewWith, lengthsWith, segmentOf, withCounts}
 use Rattle.reconstructor_state.specs.Checks.{check}
 use Rattle.reconstructor_state.proofs.Checks.{fails, goes-on, first-fails, first-on}
-use Rattle.reconstructor_checks.specs.Own.{Usable, bookRefusal, broken}
-use Rattle.reconstructor_checks.proofs.Own.{usable-none}
+use Rattle.reconstructor_checks.specs.StateChecks.{Usable, bookRefusal, broken}
+use Rattle.reconstructor_checks.proofs.StateChecks.{usable-none}
 use Rattle.reconstructor.specs.Applied.{Worked, Parts, applied}
 use Rattle.reconstructor.proofs.ByValue.{applied-trusted-to}
 use Rattle.reconstructor_handshake.specs.declared.Handshake.{Handshake}
 use Rattle.reconstructor_handshake.specs.declared.StepAnswer.{StepAnswer}
 use Rattle.reconstructor_handshake.specs.declared.StepAnswer.the-variants.{Stepped, Dropped, OtherSegment}
 use Rattle.reconstructor_handshake.specs.Step.{otherSegment, stepRefusal, drops, after, StepParts, StepWorked, unchanged, dropped, decided, unlessRefused, putBack, steppedTo, stepped}
-use Rattle.reconstructor_handshake.specs.Trusted.{stepTo}
+use Rattle.reconstructor_handshake.specs.Inner.{stepTo}
 
 -- ---- by value
 

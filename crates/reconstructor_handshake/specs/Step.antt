@@ -26,7 +26,7 @@ use Rattle.reconstructor_state.specs.declared.VenueRules.{VenueRules}
 use Rattle.reconstructor_state.specs.declared.BookReconstructor.{BookReconstructor}
 use Rattle.reconstructor_state.specs.Checks.{check, first}
 use Rattle.reconstructor_state.specs.State.{View, viewWith, Lengths, lengthsWith, withCounts, segmentOf}
-use Rattle.reconstructor_checks.specs.Own.{stateRefusal, broken}
+use Rattle.reconstructor_checks.specs.StateChecks.{stateRefusal, broken}
 use Rattle.reconstructor.specs.Applied.{Worked, appliedTo}
 use Rattle.reconstructor_handshake.specs.declared.Handshake.{Handshake}
 use Rattle.reconstructor_handshake.specs.declared.StepAnswer.{StepAnswer}

@@ -13,9 +13,9 @@ ghost use Prim.Native.Nat.{_≤_};
 ghost use Rattle.book.specs.Rows.{mostRows};
 ghost use Rattle.book.specs.Memory.{memory};
 ghost use Rattle.reconstructor_state.specs.State.{ceiling, segmentOf};
-ghost use Rattle.reconstructor_checks.specs.Own.{Trusted};
+ghost use Rattle.reconstructor_checks.specs.StateChecks.{Trusted};
 ghost use Rattle.reconstructor_handshake.specs.Step.{newHandshake, stepTold, stepNumber, otherSegment, drops, stepWorked, stepLeaves, steppedTo, stepped};
-ghost use Rattle.reconstructor_handshake.specs.Trusted.{ends, appliedBy, stepTo, stepReplyOf};
+ghost use Rattle.reconstructor_handshake.specs.Inner.{ends, appliedBy, stepTo, stepReplyOf};
 
 // A handshake for one segment, with how many messages it applied. It hands itself back at each step.
 pub struct Handshake {

@@ -16,8 +16,8 @@ use Rattle.book_queue.specs.declared.EntryForm.the-variants.{Queue}
 use Rattle.book_queue.specs.Queue.{rowsAt, entriesWords}
 use Rattle.book_queue.proofs.Orders.{shownQueue, queue-read}
 use Rattle.reconstructor_state.specs.declared.BookReconstructor.{BookReconstructor}
-use Rattle.reconstructor_checks.specs.Own.{Trusted}
-use Rattle.reconstructor_checks.proofs.Own.{sound, orders-within}
+use Rattle.reconstructor_checks.specs.StateChecks.{Trusted}
+use Rattle.reconstructor_checks.proofs.StateChecks.{sound, orders-within}
 use Rattle.reconstructor_reads.specs.LevelReads.{profileWords, l2Words, queueContent, levelsContent}
 use Rattle.reconstructor_reads.specs.Said.{queueSaid, l2Said, profileSaid, volumesAt}
 

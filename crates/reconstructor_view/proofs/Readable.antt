@@ -13,8 +13,8 @@ use Rattle.book_valid.proofs.Audited.{rows-ok}
 use Rattle.reconstructor_state.specs.declared.BookReconstructor.{BookReconstructor}
 use Rattle.reconstructor_state.specs.State.{lastOf}
 use Rattle.reconstructor_state.proofs.Checks.{passed, first-passed}
-use Rattle.reconstructor_checks.specs.Own.{memoryShort, Trusted}
-use Rattle.reconstructor_checks.proofs.Own.{sound}
+use Rattle.reconstructor_checks.specs.StateChecks.{memoryShort, Trusted}
+use Rattle.reconstructor_checks.proofs.StateChecks.{sound}
 use Rattle.reconstructor_view.specs.declared.ViewError.{ViewError}
 use Rattle.reconstructor_view.specs.declared.SequenceAnswer.{SequenceAnswer}
 use Rattle.reconstructor_view.specs.declared.SequenceAnswer.the-variants.{Valid, Refused}

@@ -21,7 +21,7 @@ use Rattle.reconstructor_counts.specs.Counts.{largest}
 use Rattle.reconstructor_segments.specs.declared.Segment.{Segment}
 use Rattle.reconstructor_segments.specs.Segments.{segmentAt}
 use Rattle.reconstructor_state.specs.State.{lastOf}
-use Rattle.reconstructor_checks.specs.Own.{overCeiling, memoryShort, broken}
+use Rattle.reconstructor_checks.specs.StateChecks.{overCeiling, memoryShort, broken}
 use Rattle.reconstructor_view.specs.declared.ViewError.{ViewError}
 use Rattle.reconstructor_view.specs.declared.ViewError.the-variants as errors
 use Rattle.reconstructor_view.specs.declared.SequenceAnswer.{SequenceAnswer}

@@ -14,7 +14,7 @@ ghost use Prim.Native.Nat.{_≤_};
 ghost use Rattle.book.specs.Rows.{mostRows};
 ghost use Rattle.book.specs.Memory.{memory};
 ghost use Rattle.reconstructor_state.specs.State.{ceiling, lastOf};
-ghost use Rattle.reconstructor_checks.specs.Own.{checked};
+ghost use Rattle.reconstructor_checks.specs.StateChecks.{checked};
 ghost use Rattle.reconstructor_view.specs.ValueReads.{standing, readRefusalOf, viewRefusalOf, sequenceOf, lastSequence, bestRead, auditRead, invalidationOf, recordsTo, segmentReadTo, segmentRead};
 ghost use Rattle.reconstructor_view.specs.Numbers.{viewErrorNumber, findingNumber, sequenceTold, bestTold, auditedTold, invalidationTold, segmentTold};
 

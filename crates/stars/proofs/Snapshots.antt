@@ -9,7 +9,7 @@ use Rattle.book.specs.Rows.{rowsFrom, stored, sideOf}
 use Rattle.book.specs.Broken.{rowBroken}
 use Rattle.reconstructor_counts.specs.Counts.{saturated}
 use Rattle.reconstructor_state.specs.Checks.{check, first}
-use Rattle.reconstructor_checks.specs.Own.{broken, stateRefusal}
+use Rattle.reconstructor_checks.specs.StateChecks.{broken, stateRefusal}
 use Rattle.reconstructor_bootstrap.specs.Snapshot.{lineRefusal, snapshotRefusal, acceptRefusal, bootRefusal}
 use Rattle.reconstructor_bootstrap.specs.Bootstrap.{closed, bootstrappedTo, bootstrapped}
 use Rattle.stars.specs.Snapshots.{Examples}

@@ -10,7 +10,7 @@ use Rattle.book.specs.Rows.{rowsFrom, stored, sideOf}
 use Rattle.book.specs.Broken.{rowBroken}
 use Rattle.reconstructor_state.specs.Checks.{check, first}
 use Rattle.reconstructor_counts.specs.Counts.{saturated}
-use Rattle.reconstructor_checks.specs.Own.{broken, stateRefusal}
+use Rattle.reconstructor_checks.specs.StateChecks.{broken, stateRefusal}
 use Rattle.reconstructor_plan.specs.Rules.{openRefusal, doneRefusal, makerRefusal, changeRefusal, sizeRefusal, eventRefusal, effect, counterOf, eventDeed}
 use Rattle.reconstructor.specs.Refusals.{admitRefusal, gateRefusal, turnRefusal}
 use Rattle.reconstructor.specs.Applied.{refusedReply, invalidatedReply, acceptedReply, accepted, decided, answered, appliedTo, applied}

@@ -1,6 +1,6 @@
 use mathlib.Core.Path.{_∙_, sym}
 use native.Mathlib.Omega.{arith}
-use Rattle.reconstructor_checks.proofs.Own.{orders-within}
+use Rattle.reconstructor_checks.proofs.StateChecks.{orders-within}
 use Rattle.host_boundary.specs.Boundary.{noBookNumber}
 use borrow.Author.Needs.{needs}
 use Rattle.host_boundary.proofs.no_book_number.Statement.{statement}

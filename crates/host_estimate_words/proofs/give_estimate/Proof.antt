@@ -2,7 +2,7 @@ use Prim.Native.Nat.{ℕ}
 use mathlib.Core.List.{List, [], _∷_}
 use Rattle.piece.specs.Encode.{sideByte}
 use Rattle.queue.specs.Numbers.{estimateValues}
-use Rattle.host_reads.specs.Answers.{given}
+use Rattle.host_answers.specs.Answers.{given}
 use mathlib.Core.Path.{_≡_, _∙_, ap}
 use mir.Syntax.{w64}
 use mir.Val.{toZ, ofZ}

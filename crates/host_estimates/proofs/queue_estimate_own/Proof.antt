@@ -6,7 +6,7 @@ use borrow.Author.Tests.{eq-eqb}
 use lib.ListN.{length}
 use Rattle.host_boundary.proofs.Passed.{passed, turned-away, goes-on}
 use Rattle.queue.specs.Numbers.{estimateTold}
-use Rattle.host_reads.specs.Answers.{answered, toldIn}
+use Rattle.host_answers.specs.Answers.{answered, toldIn}
 use Rattle.host_estimates.specs.Estimates.{ownCall}
 use borrow.Author.Needs.{needs}
 use Rattle.host_estimates.proofs.queue_estimate_own.Statement.{statement}

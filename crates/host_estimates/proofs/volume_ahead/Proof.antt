@@ -8,7 +8,7 @@ use borrow.Author.Tests.{eq-eqb, ltb-false}
 use Rattle.host_boundary.specs.Boundary.{noEstimate, boundary}
 use Rattle.host_boundary.proofs.Passed.{passed, turned-away, goes-on}
 use Rattle.queue.specs.Numbers.{aheadTold}
-use Rattle.host_reads.specs.Answers.{answered, toldIn}
+use Rattle.host_answers.specs.Answers.{answered, toldIn}
 use Rattle.host_estimates.specs.Estimates.{aheadCall}
 use borrow.Author.Needs.{needs}
 use Rattle.host_estimates.proofs.volume_ahead.Statement.{statement}

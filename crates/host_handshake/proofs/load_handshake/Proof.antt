@@ -1,5 +1,5 @@
 use mathlib.Core.Path.{refl}
-use Rattle.host_handshake.specs.Steps.{handshakeOf}
+use Rattle.host_handshake.specs.HandshakeWords.{handshakeOf}
 use borrow.Author.Needs.{needs}
 use Rattle.host_handshake.proofs.load_handshake.Statement.{statement}
 use Rattle.host_handshake.proofs.load_handshake.Tie as tie

@@ -1,4 +1,4 @@
-use Rattle.host_handshake.specs.Steps.{handshakeLeft}
+use Rattle.host_handshake.specs.HandshakeWords.{handshakeLeft}
 use borrow.Author.Needs.{needs}
 use Rattle.host_handshake.proofs.store_handshake.Statement.{statement}
 use Rattle.host_handshake.proofs.store_handshake.Tie as tie

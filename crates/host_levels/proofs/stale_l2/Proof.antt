@@ -11,7 +11,7 @@ use Rattle.reconstructor_view.specs.ValueReads.{readRefusalOf}
 use Rattle.reconstructor_reads.specs.declared.Shown.the-variants.{OutputTooSmall}
 use Rattle.reconstructor_reads.specs.Numbers.{staleTold}
 use Rattle.reconstructor_reads.specs.LevelReads.{shows, staleRead}
-use Rattle.host_reads.specs.Answers.{lastly}
+use Rattle.host_answers.specs.Answers.{lastly}
 use Rattle.host_boundary.specs.Boundary.{noBit}
 use Rattle.host_boundary.proofs.Passed.{passed, turned-away, goes-on}
 use Rattle.host_levels.specs.Levels.{levelCalled, staleCall}

@@ -1,7 +1,7 @@
 use mathlib.Core.Path.{sym}
 use Rattle.reconstructor_reads.specs.LevelReads.{staleRead}
-use Rattle.reconstructor_checks.proofs.Own.{said, said-none}
-use Rattle.host_reads.proofs.Refusals.{state-lastly}
+use Rattle.reconstructor_checks.proofs.StateChecks.{said, said-none}
+use Rattle.host_answers.proofs.Refusals.{state-lastly}
 use borrow.Author.Needs.{needs}
 use Rattle.host_levels.proofs.unwritten_stale.Statement.{statement}
 use Rattle.host_levels.proofs.unwritten_stale.Tie as tie

@@ -1,4 +1,4 @@
-use Rattle.host_reads.specs.Answers.{Answered, answered, toldIn}
+use Rattle.host_answers.specs.Answers.{Answered, answered, toldIn}
 use Rattle.piece.specs.Piece.{pieceNumber, readMessage}
 use Rattle.piece.specs.Words.{messageList, readMessageTold}
 use Rattle.host_pieces.proofs.Told.{given-none, given-all, length-message, piece-refused}

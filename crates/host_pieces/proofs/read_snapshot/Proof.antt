@@ -1,4 +1,4 @@
-use Rattle.host_reads.specs.Answers.{Answered, answered, toldIn}
+use Rattle.host_answers.specs.Answers.{Answered, answered, toldIn}
 use Rattle.piece.specs.Piece.{pieceNumber, readSnapshot}
 use Rattle.piece.specs.Words.{snapshotWords, readSnapshotTold}
 use Rattle.host_pieces.proofs.Told.{given-none, given-all, piece-refused}

@@ -2,7 +2,7 @@ use native.Mathlib.Omega.{arith}
 use borrow.Author.Needs.{needs}
 use Rattle.book.specs.Rows.{mostRows}
 use Rattle.book.specs.Memory.{memory}
-use Rattle.reconstructor_checks.proofs.Own.{rows-ready}
+use Rattle.reconstructor_checks.proofs.StateChecks.{rows-ready}
 use Rattle.reconstructor.proofs.Laws.{trusted-ready}
 use Rattle.host_replay.proofs.Runs.{loaded, foreseen, applies, runs-on}
 use Rattle.host_replay.proofs.apply_message.Statement.{statement}

@@ -3,7 +3,7 @@ use borrow.Author.Needs.{needs}
 use Rattle.book.specs.Memory.{memory}
 use Rattle.reconstructor_state.specs.State.{ceiling}
 use Rattle.host_records.specs.Records.{recordsIn}
-use Rattle.reconstructor_checks.proofs.Own.{rows-ready, trusted}
+use Rattle.reconstructor_checks.proofs.StateChecks.{rows-ready, trusted}
 use Rattle.host_replay.proofs.Runs.{runs-start}
 use Rattle.host_replay.proofs.replay_in.Statement.{statement}
 use Rattle.host_replay.proofs.replay_in.Tie as tie

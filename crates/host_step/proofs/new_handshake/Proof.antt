@@ -3,7 +3,7 @@ use Prim.Native.Nat.{ℕ}
 use borrow.Author.Tests.{eq-eqb, lt-ltb, le-ltb}
 use lib.ListN.{length}
 use Rattle.host_boundary.proofs.Passed.{own-passed, turned-away, goes-on}
-use Rattle.host_reads.specs.Answers.{answered}
+use Rattle.host_answers.specs.Answers.{answered}
 use Rattle.host_calls.specs.Calls.{handshakeCall}
 use borrow.Author.Needs.{needs}
 use Rattle.host_step.proofs.new_handshake.Statement.{statement}

@@ -3,7 +3,7 @@ use Prim.Native.Nat.{ℕ}
 use borrow.Author.Tests.{eq-eqb}
 use Rattle.host_boundary.proofs.Passed.{own-passed, turned-away, goes-on}
 use Rattle.reconstructor_view.specs.Numbers.{invalidationTold}
-use Rattle.host_reads.specs.Answers.{answered, toldIn}
+use Rattle.host_answers.specs.Answers.{answered, toldIn}
 use Rattle.host_views.specs.Views.{invalidationCall}
 use borrow.Author.Needs.{needs}
 use Rattle.host_views.proofs.invalidation.Statement.{statement}

@@ -5,7 +5,7 @@ use Rattle.host_boundary.proofs.Passed.{own-passed, turned-away, goes-on}
 use Rattle.reconstructor_view.specs.ValueReads.{segmentReadTo}
 use Rattle.reconstructor_view.specs.Numbers.{segmentTold}
 use Rattle.host_records.proofs.Records.{length-records}
-use Rattle.host_reads.specs.Answers.{answered, toldIn}
+use Rattle.host_answers.specs.Answers.{answered, toldIn}
 use Rattle.host_views.specs.Views.{segmentCall}
 use borrow.Author.Needs.{needs}
 use Rattle.host_views.proofs.segment.Statement.{statement}

@@ -3,7 +3,7 @@ use mathlib.Core.Path.{_∙_, sym}
 use mathlib.Core.Bool.{false}
 use Rattle.book.specs.Memory.{memory}
 use Rattle.reconstructor_state.specs.Checks.{check, first}
-use Rattle.reconstructor_checks.proofs.Own.{sound, rows-ready}
+use Rattle.reconstructor_checks.proofs.StateChecks.{sound, rows-ready}
 use Rattle.reconstructor_view.proofs.Readable.{refused-for, found-valid}
 use Rattle.queue.specs.Estimates.{aheadRefusal, aheadOf}
 use borrow.Author.Needs.{needs}

@@ -1,7 +1,7 @@
 -- Where `valid_book` answers a sequence, the rows are lent and sound: the own order is looked up, and its price fits an amount.
 use mathlib.Core.Bool.{false}
 use Rattle.book.specs.Memory.{memory, ordersOf}
-use Rattle.reconstructor_checks.proofs.Own.{sound, rows-ready}
+use Rattle.reconstructor_checks.proofs.StateChecks.{sound, rows-ready}
 use Rattle.reconstructor_view.proofs.Readable.{refused-for, found-valid}
 use Rattle.queue.specs.Estimates.{ownViewed}
 use Rattle.queue.proofs.Ahead.{with-sound, price-most}

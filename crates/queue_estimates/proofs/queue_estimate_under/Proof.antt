@@ -10,7 +10,7 @@ use Rattle.book.proofs.Rows.{length-rows}
 use Rattle.book_queue.specs.declared.EntryForm.the-variants.{Ahead}
 use Rattle.book_queue.specs.Queue.{rowsAt, entriesWords}
 use Rattle.book_queue.proofs.Orders.{at-most, width-entries}
-use Rattle.reconstructor_checks.proofs.Own.{rows-ready}
+use Rattle.reconstructor_checks.proofs.StateChecks.{rows-ready}
 use Rattle.reconstructor_view.proofs.Readable.{refused-for, found-valid}
 use Rattle.queue.specs.Estimates.{estimated}
 use borrow.Author.Needs.{needs}

@@ -40,7 +40,7 @@ use Rattle.book.specs.Memory.{memory}
 use Rattle.reconstructor_state.specs.State.{ceiling}
 use Rattle.reconstructor_answers.specs.Numbers.{answerTold}
 use Rattle.reconstructor.specs.Applied.{Parts, leaves, applied, worked, appliedTo, putBack}
-use Rattle.reconstructor.specs.Steps.{replyOf}
+use Rattle.reconstructor.specs.Inner.{replyOf}
 use Rattle.reconstructor.proofs.ApplyShell as shell
 use Rattle.reconstructor.proofs.apply.Key.{name}
 use Rattle.reconstructor.proofs.apply as f

@@ -2,7 +2,7 @@ use borrow.Author.Needs.{needs}
 use Rattle.book.specs.Rows.{rowsOf}
 use Rattle.book.specs.Memory.{memory}
 use Rattle.book_index.proofs.Index.{unindexed}
-use Rattle.reconstructor_checks.proofs.Own.{sound}
+use Rattle.reconstructor_checks.proofs.StateChecks.{sound}
 use Rattle.reconstructor.proofs.Laws.{trusted-ready}
 use Rattle.reconstructor.proofs.apply_trusted.Statement.{statement}
 use Rattle.reconstructor.proofs.apply_trusted.Tie as tie

@@ -4,7 +4,7 @@ use Rattle.book.specs.Memory.{memory}
 use Rattle.reconstructor.specs.Applied.{answered, appliedTo}
 use Rattle.reconstructor.specs.Refusals.{gateRefusal}
 use Rattle.reconstructor_state.proofs.Checks.{first-fails, first-on}
-use Rattle.reconstructor_checks.proofs.Own.{usable, trusted-under, said, said-none}
+use Rattle.reconstructor_checks.proofs.StateChecks.{usable, trusted-under, said, said-none}
 use Rattle.reconstructor.proofs.apply_under.Statement.{statement}
 use Rattle.reconstructor.proofs.apply_under.Tie as tie
 

@@ -2,7 +2,7 @@ use mathlib.Core.Path.{_∙_, ap}
 use borrow.Author.Needs.{needs}
 use Rattle.reconstructor.specs.declared.Reply.{Reply}
 use Rattle.reconstructor.specs.Applied.{accepted, decided, core}
-use Rattle.reconstructor.specs.Steps.{committed}
+use Rattle.reconstructor.specs.Inner.{committed}
 use Rattle.book.specs.Memory.{memory}
 use Rattle.reconstructor.proofs.apply_valid.Statement.{statement}
 use Rattle.reconstructor.proofs.apply_valid.Tie as tie

@@ -1,9 +1,9 @@
 use mathlib.Core.Path.{sym, ap, _∙_}
 use borrow.Author.Needs.{needs}
 use Rattle.book.specs.Memory.{memory}
-use Rattle.reconstructor_checks.specs.Own.{bookRefusal}
+use Rattle.reconstructor_checks.specs.StateChecks.{bookRefusal}
 use Rattle.reconstructor_bootstrap.specs.Bootstrap.{booted, refusedWork}
-use Rattle.reconstructor_checks.proofs.Own.{said, said-none, usable, usable-under}
+use Rattle.reconstructor_checks.proofs.StateChecks.{said, said-none, usable, usable-under}
 use Rattle.reconstructor_bootstrap.proofs.Whole.{unusable, not-read, read}
 use Rattle.reconstructor_bootstrap.proofs.bootstrap_under.Statement.{statement}
 use Rattle.reconstructor_bootstrap.proofs.bootstrap_under.Tie as tie

@@ -6,8 +6,8 @@ use Rattle.book.specs.Rows.{mostRows}
 use Rattle.book.specs.Memory.{memory}
 use Rattle.reconstructor_bootstrap.specs.Snapshot.{snapshotLine}
 use Rattle.reconstructor_bootstrap.specs.Bootstrap.{booted}
-use Rattle.reconstructor_checks.proofs.Own.{orders-within}
-use Rattle.reconstructor_bootstrap.proofs.Vetted.{said, said-none}
+use Rattle.reconstructor_checks.proofs.StateChecks.{orders-within}
+use Rattle.reconstructor_bootstrap.proofs.InTurn.{said, said-none}
 use Rattle.reconstructor_bootstrap.proofs.Whole.{list-full, snapshot-refused, snapshot-fits, few-orders, room-for, segment-room}
 use Rattle.reconstructor_bootstrap.proofs.bootstrap_usable.Statement.{statement}
 use Rattle.reconstructor_bootstrap.proofs.bootstrap_usable.Tie as tie

@@ -2,7 +2,7 @@ use Prim.Native.Nat.{_+_}
 use mathlib.Core.Path.{sym}
 use native.Mathlib.Omega.{arith}
 use borrow.Author.Tests.{lt-ltb}
-use Rattle.reconstructor_bootstrap.proofs.Vetted.{limit-told}
+use Rattle.reconstructor_bootstrap.proofs.InTurn.{limit-told}
 use Rattle.reconstructor_bootstrap.proofs.over_limit.Statement.{statement}
 use Rattle.reconstructor_bootstrap.proofs.over_limit.Tie as tie
 

@@ -1,8 +1,8 @@
 use mathlib.Core.Path.{sym, _∙_}
 use borrow.Author.Needs.{needs}
 use Rattle.book.specs.Rows.{rowsOf}
-use Rattle.reconstructor_checks.proofs.Own.{words-rows}
-use Rattle.reconstructor_bootstrap.proofs.Vetted.{says-none, unbroken-passes}
+use Rattle.reconstructor_checks.proofs.StateChecks.{words-rows}
+use Rattle.reconstructor_bootstrap.proofs.InTurn.{says-none, unbroken-passes}
 use Rattle.reconstructor_bootstrap.proofs.validate_rows.Statement.{statement}
 use Rattle.reconstructor_bootstrap.proofs.validate_rows.Tie as tie
 

@@ -8,7 +8,7 @@ use Rattle.reconstructor_bootstrap.specs.Snapshot.{lineRefusal, snapshot
 use Rattle.reconstructor_bootstrap.specs.Bootstrap.{validated}
 use Rattle.reconstructor_state.proofs.Checks.{fails, goes-on, told-true, told-false}
 use Rattle.reconstructor_bootstrap.proofs.Places.{line-places}
-use Rattle.reconstructor_bootstrap.proofs.Vetted.{says}
+use Rattle.reconstructor_bootstrap.proofs.InTurn.{says}
 use Rattle.reconstructor_bootstrap.proofs.validate_snapshot.Statement.{statement}
 use Rattle.reconstructor_bootstrap.proofs.validate_snapshot.Tie as tie
 

@@ -1,9 +1,9 @@
 use native.Mathlib.Omega.{arith}
 use borrow.Author.Tests.{lt-ltb, le-ltb}
 use borrow.Author.Needs.{needs}
-use Rattle.reconstructor_checks.specs.Own.{broken}
+use Rattle.reconstructor_checks.specs.StateChecks.{broken}
 use Rattle.book.specs.Memory.{memory}
-use Rattle.reconstructor_checks.proofs.Own.{memory-room, words-rows}
+use Rattle.reconstructor_checks.proofs.StateChecks.{memory-room, words-rows}
 use Rattle.reconstructor_checks.proofs.broken.Statement.{statement}
 use Rattle.reconstructor_checks.proofs.broken.Tie as tie
 

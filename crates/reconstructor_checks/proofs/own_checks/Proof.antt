@@ -2,8 +2,8 @@ use mathlib.Core.Path.{_∙_, sym, refl}
 use native.Mathlib.Omega.{arith}
 use borrow.Author.Needs.{needs}
 use Rattle.book.specs.Memory.{memory}
-use Rattle.reconstructor_checks.specs.Own.{stateRefusal}
-use Rattle.reconstructor_checks.proofs.Own.{says, says-none, orders-within, memory-lent}
+use Rattle.reconstructor_checks.specs.StateChecks.{stateRefusal}
+use Rattle.reconstructor_checks.proofs.StateChecks.{says, says-none, orders-within, memory-lent}
 use Rattle.reconstructor_state.proofs.Checks.{fails, goes-on, told-true, told-false}
 use Rattle.reconstructor_checks.proofs.own_checks.Statement.{statement}
 use Rattle.reconstructor_checks.proofs.own_checks.Tie as tie

@@ -3,7 +3,7 @@ use mathlib.Core.Path.{ap}
 use native.Mathlib.Omega.{arith}
 use borrow.Author.Tests.{ltb-false}
 use Rattle.book.specs.Memory.{memory}
-use Rattle.reconstructor_checks.proofs.Own.{said, said-none, sound, rows-ready}
+use Rattle.reconstructor_checks.proofs.StateChecks.{said, said-none, sound, rows-ready}
 use Rattle.reconstructor_view.specs.ValueReads.{readRefusalOf}
 use Rattle.reconstructor_view.proofs.Readable.{readable}
 use Rattle.reconstructor_reads.specs.declared.StaleAnswer.the-variants.{Shown}

@@ -1,7 +1,7 @@
 -- Where `valid_book` answers a sequence, 1, 2 and 3 are passed: the rows are lent, and the best prices found are the line's.
 use mathlib.Core.Bool.{false}
 use Rattle.book.specs.Memory.{memory}
-use Rattle.reconstructor_checks.proofs.Own.{rows-ready}
+use Rattle.reconstructor_checks.proofs.StateChecks.{rows-ready}
 use Rattle.reconstructor_view.specs.ValueReads.{bestOf}
 use Rattle.reconstructor_view.proofs.Readable.{refused-for, found-valid}
 use borrow.Author.Needs.{needs}

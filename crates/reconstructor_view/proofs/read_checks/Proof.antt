@@ -4,8 +4,8 @@ use native.Mathlib.Omega.{arith}
 use Rattle.laws.proofs.Bools.{or-no}
 use Rattle.book.specs.Memory.{memory, extentOf}
 use Rattle.reconstructor_state.proofs.Checks.{fails, goes-on, told-true, told-false}
-use Rattle.reconstructor_checks.specs.Own.{memoryShort}
-use Rattle.reconstructor_checks.proofs.Own.{says, says-none, orders-within}
+use Rattle.reconstructor_checks.specs.StateChecks.{memoryShort}
+use Rattle.reconstructor_checks.proofs.StateChecks.{says, says-none, orders-within}
 use Rattle.reconstructor_view.specs.ValueReads.{readRefusal}
 use borrow.Author.Needs.{needs}
 use Rattle.reconstructor_view.proofs.read_checks.Statement.{statement}

@@ -2,7 +2,7 @@ use mathlib.Core.Path.{_∙_, sym, refl, ap}
 use Rattle.book.specs.Memory.{memory}
 use Rattle.reconstructor_state.specs.State.{lastOf}
 use Rattle.reconstructor_view.specs.ValueReads.{readRefusalOf, viewRefusal, sequenceOf}
-use Rattle.reconstructor_checks.proofs.Own.{said, said-none}
+use Rattle.reconstructor_checks.proofs.StateChecks.{said, said-none}
 use Rattle.reconstructor_state.proofs.Checks.{first-fails, first-on}
 use borrow.Author.Needs.{needs}
 use Rattle.reconstructor_view.proofs.valid_book.Statement.{statement}

@@ -1,4 +1,4 @@
-//! The words of a book's memory, as crates `host_words` and `host_reads` document them in their specs.
+//! The words of a book's memory, as crates `host_words` and `host_answers` document them in their specs.
 
 use crate::call::{
     Anchor, Estimate, Handshake, Invalidation, Rules, Segment, SegmentEnd, SizeDecrease, State,

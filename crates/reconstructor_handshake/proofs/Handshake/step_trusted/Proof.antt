@@ -4,7 +4,7 @@ use borrow.Author.Needs.{needs}
 use Rattle.reconstructor_state.specs.Checks.{check}
 use Rattle.reconstructor_state.proofs.Checks.{told-true, told-false}
 use Rattle.reconstructor_handshake.specs.Step.{unlessRefused}
-use Rattle.reconstructor_handshake.specs.Trusted.{stepTo}
+use Rattle.reconstructor_handshake.specs.Inner.{stepTo}
 use Rattle.reconstructor_handshake.proofs.After.{decided-parts}
 use Rattle.reconstructor_handshake.proofs.Handshake.step_trusted.Statement.{statement}
 use Rattle.reconstructor_handshake.proofs.Handshake.step_trusted.Tie as tie

@@ -1,7 +1,7 @@
 use borrow.Author.Needs.{needs}
 use mathlib.Core.Path.{_∙_, sym}
 use Rattle.book.specs.Memory.{memory}
-use Rattle.reconstructor_checks.proofs.Own.{usable, trusted-under, said, said-none}
+use Rattle.reconstructor_checks.proofs.StateChecks.{usable, trusted-under, said, said-none}
 use Rattle.reconstructor_handshake.proofs.Step.{unusable-work, usable-work}
 use Rattle.reconstructor_handshake.proofs.Handshake.step_under.Statement.{statement}
 use Rattle.reconstructor_handshake.proofs.Handshake.step_under.Tie as tie

@@ -21,7 +21,7 @@ use Rattle.reconstructor_bootstrap.specs.declared.SnapshotError.{Snapsho
 use Rattle.reconstructor_bootstrap.specs.declared.SnapshotError.the-variants.{DuplicateId, InvalidValue, Crossed, CapacityExceeded}
 use Rattle.reconstructor_bootstrap.specs.declared.Validated.{Validated}
 use Rattle.reconstructor_bootstrap.specs.declared.Validated.the-variants.{Fits, Refused}
-use Rattle.reconstructor_bootstrap.specs.Snapshot.{notPositive, noRoom, vet, lineRefusal}
+use Rattle.reconstructor_bootstrap.specs.Snapshot.{notPositive, noRoom, inTurn, lineRefusal}
 use Rattle.reconstructor_bootstrap.specs.Bootstrap.{validated}
 use Rattle.laws.proofs.Bools.{or-no, or-both}
 use Rattle.book.proofs.Rows.{rows-next, rows-around, rows-done}
@@ -78,7 +78,7 @@ last13 rows n = check (crossed (lineOf (rowsOf rows n))) Crossed none
 -- the search stands before row i of n
 abbrev pub Reached : ℕ → List ℕ → ℕ → ℕ → Type 0
 Reached ml rows n i =
-    lineRefusal ml (lineOf (rowsOf rows n)) ≡ vet ml (lineOf (rowsOf rows i)) (lineOf (rowsFrom rows i (n - i))) (last13 rows n)
+    lineRefusal ml (lineOf (rowsOf rows n)) ≡ inTurn ml (lineOf (rowsOf rows i)) (lineOf (rowsFrom rows i (n - i))) (last13 rows n)
 
 pub reached-none : (ml : ℕ) (rows : List ℕ) (n : ℕ) → Reached ml rows n 0
 unfolding lineRefusal rowsFrom
@@ -96,12 +96,12 @@ module _ (rows : List ℕ) (n i : ℕ) (o : Resting) (h : i < n) (e : o ≡ rowA
   pub levels-turn : levels (lineOf (rowsOf rows (i + 1))) ≡ levels (lineOf (rowsOf rows i)) + cond (hasLevel (entryOf o .side) (o .price) (lineOf (rowsOf rows i))) 0 1
   levels-turn = ap levels line-next ∙ levels-next (lineOf (rowsOf rows i)) (entryOf o)
 
-  pub vet-turn : (ml : ℕ) (last : Option SnapshotError) → vet ml (lineOf (rowsOf rows i)) (lineOf (rowsFrom rows i (n - i))) last
+  pub inTurn-turn : (ml : ℕ) (last : Option SnapshotError) → inTurn ml (lineOf (rowsOf rows i)) (lineOf (rowsFrom rows i (n - i))) last
       ≡ check (rests (idOf o) (lineOf (rowsOf rows i))) DuplicateId
       (check (notPositive (entryOf o)) InvalidValue
       (check (noRoom ml (lineOf (rowsOf rows i)) (entryOf o)) CapacityExceeded
-      (vet ml (lineOf (rowsOf rows (i + 1))) (lineOf (rowsFrom rows (i + 1) (n - (i + 1)))) last)))
-  vet-turn ml last = rw (rows-next rows n i o h e, line-next)
+      (inTurn ml (lineOf (rowsOf rows (i + 1))) (lineOf (rowsFrom rows (i + 1) (n - (i + 1)))) last)))
+  inTurn-turn ml last = rw (rows-next rows n i o h e, line-next)
 
 -- the test of 14 by the numbers that the code has
 pub room-told : (h : Bool) (added most count ml : ℕ) → added ≡ cond h 0 1 → count ≡ most → (eqb added 1 && leb ml count) ≡ (not h && leb ml most)
@@ -112,7 +112,7 @@ room-told false added most count ml p q = rw (p, q)
 
 -- positive amounts, no id twice and few levels pass every turn
 passes : (ml : ℕ) (before es : List Entry) (last : Option SnapshotError) → someOutOfRange es ≡ false → idTwice (before ++ es) ≡ false → levels (before ++ es) ≤ ml
-    → vet ml before es last ≡ last
+    → inTurn ml before es last ≡ last
 passes ml before [] last r s f = refl
 passes ml before (e ∷ es) last r s f =
     let a = or-no (outOfRange (e .price) || outOfRange (e .remaining)) (someOutOfRange es) r in
@@ -160,7 +160,7 @@ pub record Passed (ml : ℕ) (before es : List Entry) (last : Option SnapshotErr
   pub flat : levels (before ++ es) ≤ ml
   pub positive : someNotPositive es ≡ false
 
-pub has-passed : (ml : ℕ) (before es : List Entry) (last : Option SnapshotError) → vet ml before es last ≡ none → idTwice before ≡ false → levels before ≤ ml
+pub has-passed : (ml : ℕ) (before es : List Entry) (last : Option SnapshotError) → inTurn ml before es last ≡ none → idTwice before ≡ false → levels before ≤ ml
     → Passed ml before es last
 has-passed ml before [] last h s f = record { end = h; single = ap idTwice (append-nil before) ∙ s; flat = omega (arith, ap levels (append-nil before)); positive = refl }
 has-passed ml before (e ∷ es) last h s f =

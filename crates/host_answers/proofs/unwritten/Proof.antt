@@ -1,8 +1,8 @@
 use mathlib.Core.Path.{sym}
-use Rattle.host_reads.proofs.Refusals.{view-lastly}
+use Rattle.host_answers.proofs.Refusals.{view-lastly}
 use borrow.Author.Needs.{needs}
-use Rattle.host_reads.proofs.unwritten.Statement.{statement}
-use Rattle.host_reads.proofs.unwritten.Tie as tie
+use Rattle.host_answers.proofs.unwritten.Statement.{statement}
+use Rattle.host_answers.proofs.unwritten.Tie as tie
 
 returns : tie.Need-returns
 returns c = rw (← c .before .before .valid-book .ensures, c .enum-told .given .1)

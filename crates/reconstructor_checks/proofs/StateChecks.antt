@@ -20,7 +20,7 @@ use Rattle.reconstructor_state.specs.declared.BookReconstructor.{BookReconstruc
 use Rattle.reconstructor_state.specs.State.{lengthsWith}
 use Rattle.reconstructor_checks.specs.declared.Checked.{Checked}
 use Rattle.reconstructor_checks.specs.declared.Checked.the-variants.{Passed, Refused}
-use Rattle.reconstructor_checks.specs.Own.{overCeiling, memoryShort, tooShort, unsettled, broken, stateRefusal, bookRefusal, checked, Usable, Trusted}
+use Rattle.reconstructor_checks.specs.StateChecks.{overCeiling, memoryShort, tooShort, unsettled, broken, stateRefusal, bookRefusal, checked, Usable, Trusted}
 use Rattle.laws.proofs.Bools.{or-no, or-both}
 use Rattle.book.proofs.Rows.{length-rows}
 use Rattle.book.proofs.Kept.{broken-not, not-broken}

@@ -10,7 +10,7 @@ use Rattle.reconstructor_answers.specs.Numbers.{stateErrorNumber}
 use Rattle.reconstructor_view.specs.declared.ViewError.{ViewError}
 use Rattle.reconstructor_view.specs.declared.ViewError.the-variants as views
 use Rattle.reconstructor_view.specs.Numbers.{viewErrorTold}
-use Rattle.host_reads.specs.Answers.{answered, toldIn, lastly}
+use Rattle.host_answers.specs.Answers.{answered, toldIn, lastly}
 
 pub state-refused : (e : StateError) (out : List ℕ) → toldIn (told (stateErrorNumber e) []) out ≡ answered (stateErrorNumber e) out
 state-refused LimitAboveCeiling out = refl

@@ -13,7 +13,7 @@ use Rattle.reconstructor_segments.specs.declared.Segment.{Segment}
 use Rattle.reconstructor_state.specs.declared.BookReconstructor.{BookReconstructor}
 use Rattle.reconstructor_state.specs.Checks.{check}
 use Rattle.reconstructor_state.specs.State.{segmentOf}
-use Rattle.reconstructor.specs.Steps.{trustedTo}
+use Rattle.reconstructor.specs.Inner.{trustedTo}
 use Rattle.reconstructor_handshake.specs.declared.Handshake.{Handshake}
 use Rattle.reconstructor_handshake.specs.declared.StepAnswer.the-variants.{Stepped, OtherSegment}
 use Rattle.reconstructor_handshake.specs.declared.StepReply.{StepReply}

@@ -2,10 +2,10 @@ use native.Mathlib.Nat.{zero-add}
 use mathlib.Core.Path.{ap}
 use borrow.Author.Tests.{lt-ltb, le-ltb}
 use lib.ListN.{length}
-use Rattle.host_reads.specs.Answers.{answered}
+use Rattle.host_answers.specs.Answers.{answered}
 use borrow.Author.Needs.{needs}
-use Rattle.host_reads.proofs.give.Statement.{statement}
-use Rattle.host_reads.proofs.give.Tie as tie
+use Rattle.host_answers.proofs.give.Statement.{statement}
+use Rattle.host_answers.proofs.give.Tie as tie
 
 returns : tie.Need-returns
 returns c =

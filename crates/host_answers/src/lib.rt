@@ -17,7 +17,7 @@ ghost use Rattle.reconstructor_state.specs.State.{ceiling, lastOf};
 ghost use Rattle.reconstructor_view.specs.ValueReads.{viewRefusalOf, sequenceOf};
 ghost use Rattle.reconstructor_view.specs.Numbers.{sequenceTold, present, priceOf, bestTold, invalidationTold, segmentTold};
 ghost use Rattle.reconstructor_reads.specs.Numbers.{shownTold, levelTold, staleTold};
-ghost use Rattle.host_reads.specs.Answers.{answered, given, toldIn, lastly};
+ghost use Rattle.host_answers.specs.Answers.{answered, given, toldIn, lastly};
 
 // A success's values: 7, and nothing written, where they have no room.
 pub fn give(out: &mut [u64], values: &[u64]) -> u64
