@@ -179,7 +179,7 @@ pub fn bounds_of(rows: &[u64], n: usize) -> Bounds
     let mut bounds = Bounds {
         known: true,
         high_bid: 0,
-        low_ask: 18446744073709551615,
+        low_ask: u64::MAX,
     };
     let mut i = n;
     while 0 < i {

@@ -13,6 +13,7 @@ use message::ProductId;
 ghost use mathlib.Core.Path.{_≡_};
 ghost use Prim.Native.Nat.{_≤_};
 ghost use lib.ListN.{length};
+ghost use Rattle.piece.specs.Words.{messageWords};
 ghost use Rattle.piece.specs.Piece.{doneReasonOf, changeReasonOf};
 ghost use Rattle.piece.specs.Encode.{kindByte, doneReasonByte, changeReasonByte, presentBit, optionalWord};
 ghost use Rattle.piece.specs.Words.{eventWords};
@@ -233,7 +234,7 @@ fn load_change_reason(word: u64) -> ChangeReason
 }
 
 fn load_received(words: &[u64]) -> L3Event
-    requires { ⌜ 21 ≤ length (now words) ⌝ }
+    requires { ⌜ messageWords ≤ length (now words) ⌝ }
     ensures { λ r. ⌜ r ≡ receivedOf (now (words .entry)) ⌝ }
 {
     L3Event::Received {
@@ -246,7 +247,7 @@ fn load_received(words: &[u64]) -> L3Event
 }
 
 fn load_open(words: &[u64]) -> L3Event
-    requires { ⌜ 21 ≤ length (now words) ⌝ }
+    requires { ⌜ messageWords ≤ length (now words) ⌝ }
     ensures { λ r. ⌜ r ≡ openOf (now (words .entry)) ⌝ }
 {
     L3Event::Open {
@@ -261,7 +262,7 @@ fn load_open(words: &[u64]) -> L3Event
 }
 
 fn load_done(words: &[u64]) -> L3Event
-    requires { ⌜ 21 ≤ length (now words) ⌝ }
+    requires { ⌜ messageWords ≤ length (now words) ⌝ }
     ensures { λ r. ⌜ r ≡ doneOf (now (words .entry)) ⌝ }
 {
     L3Event::Done {
@@ -277,7 +278,7 @@ fn load_done(words: &[u64]) -> L3Event
 }
 
 fn load_match(words: &[u64]) -> L3Event
-    requires { ⌜ 21 ≤ length (now words) ⌝ }
+    requires { ⌜ messageWords ≤ length (now words) ⌝ }
     ensures { λ r. ⌜ r ≡ matchOf (now (words .entry)) ⌝ }
 {
     L3Event::Match {
@@ -296,7 +297,7 @@ fn load_match(words: &[u64]) -> L3Event
 }
 
 fn load_change(words: &[u64]) -> L3Event
-    requires { ⌜ 21 ≤ length (now words) ⌝ }
+    requires { ⌜ messageWords ≤ length (now words) ⌝ }
     ensures { λ r. ⌜ r ≡ changeOf (now (words .entry)) ⌝ }
 {
     L3Event::Change {
@@ -316,7 +317,7 @@ fn load_change(words: &[u64]) -> L3Event
 }
 
 fn load_event(words: &[u64]) -> L3Event
-    requires { ⌜ 21 ≤ length (now words) ⌝ }
+    requires { ⌜ messageWords ≤ length (now words) ⌝ }
     ensures { λ r. ⌜ r ≡ eventOf (now (words .entry)) ⌝ }
 {
     let kind = words[0];
@@ -334,7 +335,7 @@ fn load_event(words: &[u64]) -> L3Event
 
 // The message that 21 words are: any words are one.
 pub fn load_message(words: &[u64]) -> L3Message
-    requires { ⌜ 21 ≤ length (now words) ⌝ }
+    requires { ⌜ messageWords ≤ length (now words) ⌝ }
     ensures { λ r. ⌜ r ≡ messageOf (now (words .entry)) ⌝ }
 {
     L3Message {

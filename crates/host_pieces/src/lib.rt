@@ -3,6 +3,7 @@ use host_messages::event_words;
 use host_messages::kind_word;
 use host_words::bits;
 use host_words::put;
+use piece::MESSAGE_WORDS;
 use piece::ReadMessage;
 use piece::ReadSnapshot;
 ghost use mathlib.Core.Path.{_≡_};
@@ -15,7 +16,7 @@ pub fn read_message(bytes: &[u8], out: &mut [u64]) -> u64
 {
     match piece_messages::read_message(bytes) {
         ReadMessage::Message(m) => {
-            if out.len() < 21 {
+            if out.len() < MESSAGE_WORDS {
                 return 7;
             }
             let event = m.event;

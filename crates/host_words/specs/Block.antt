@@ -161,7 +161,7 @@ restList b =
 
 -- what a call leaves of a block: words 0 to 5 and those past 26 stay; 13 to 26 are those of the state afterwards
 unfoldable pub restored : List ℕ → Bool → BookReconstructor → List ℕ
-restored st sets b = take 6 st ++ statusAfter st sets (b .status) ++ restList b ++ drop 27 st
+restored st sets b = take 6 st ++ statusAfter st sets (b .status) ++ restList b ++ drop stateWords st
 
 -- ---- A message: 21 words, as `messageList` of crate `piece` gives them
 --   0         kind: 1 received, 2 open, 3 done, 4 match, 5 change, 6 unsupported

@@ -19,7 +19,7 @@ ghost use mir.Syntax.{w64};
 ghost use mir.Val.{ofZ, toZ};
 ghost use Rattle.piece.specs.Piece.{sideOf};
 ghost use Rattle.piece.specs.Encode.{sideByte};
-ghost use Rattle.host_words.specs.Block.{sizeDecreaseOf, reasonOf, discrepancyOf, kindOf, statusOf, rulesOf, countsOf, bookOf, kindWords, statusWords, statusAfter, restList, restored, setsStatus};
+ghost use Rattle.host_words.specs.Block.{stateWords, sizeDecreaseOf, reasonOf, discrepancyOf, kindOf, statusOf, rulesOf, countsOf, bookOf, kindWords, statusWords, statusAfter, restList, restored, setsStatus};
 
 // The words of a state.
 pub const STATE_WORDS: usize = 27;
@@ -31,7 +31,7 @@ pub fn bits(amount: i64) -> u64
     ensures { λ r. ⌜ r ≡ ofZ w64 amount ⌝ }
 {
     if amount < 0 {
-        18446744073709551615 - (!amount as u64)
+        u64::MAX - (!amount as u64)
     } else {
         amount as u64
     }
@@ -132,7 +132,7 @@ fn load_status(word: u64, last: u64, offending: u64, kind: InvalidationKind) -> 
 }
 
 pub fn load_rules(words: &[u64]) -> VenueRules
-    requires { ⌜ 27 ≤ length (now words) ⌝ }
+    requires { ⌜ stateWords ≤ length (now words) ⌝ }
     ensures { λ r. ⌜ r ≡ rulesOf (now (words .entry)) ⌝ }
 {
     VenueRules {
@@ -143,7 +143,7 @@ pub fn load_rules(words: &[u64]) -> VenueRules
 }
 
 fn load_counts(words: &[u64]) -> MessageCounts
-    requires { ⌜ 27 ≤ length (now words) ⌝ }
+    requires { ⌜ stateWords ≤ length (now words) ⌝ }
     ensures { λ r. ⌜ r ≡ countsOf (now (words .entry)) ⌝ }
 {
     MessageCounts {
@@ -164,7 +164,7 @@ fn load_counts(words: &[u64]) -> MessageCounts
 
 // The state that a block is: any words are one.
 pub fn load_book(words: &[u64]) -> BookReconstructor
-    requires { ⌜ 27 ≤ length (now words) ⌝ }
+    requires { ⌜ stateWords ≤ length (now words) ⌝ }
     ensures { λ r. ⌜ r ≡ bookOf (now (words .entry)) ⌝ }
 {
     let product_id = ProductId {
@@ -267,7 +267,7 @@ fn status_words(status: Status) -> StatusWords
 
 // Writes words 6 to 12 where the call sets the status: a refusal leaves them, even where a status can be written in other words.
 fn store_status(words: &mut [u64], status: Status, sets: bool)
-    requires { ⌜ 27 ≤ length (now words) ⌝ }
+    requires { ⌜ stateWords ≤ length (now words) ⌝ }
     ensures { λ _. ⌜ now (words .exit) ≡ take 6 (now (words .entry)) ++ statusAfter (now (words .entry)) sets status ++ drop 13 (now (words .entry)) ⌝ }
 {
     if !sets {
@@ -292,8 +292,8 @@ fn store_status(words: &mut [u64], status: Status, sets: bool)
 
 // Writes words 13 to 26.
 fn store_rest(words: &mut [u64], book: BookReconstructor)
-    requires { ⌜ 27 ≤ length (now words) ⌝ }
-    ensures { λ _. ⌜ now (words .exit) ≡ take 13 (now (words .entry)) ++ restList book ++ drop 27 (now (words .entry)) ⌝ }
+    requires { ⌜ stateWords ≤ length (now words) ⌝ }
+    ensures { λ _. ⌜ now (words .exit) ≡ take 13 (now (words .entry)) ++ restList book ++ drop stateWords (now (words .entry)) ⌝ }
 {
     let counts = book.counts;
     put(
@@ -320,7 +320,7 @@ fn store_rest(words: &mut [u64], book: BookReconstructor)
 
 // Writes what a call may have changed of the state.
 pub fn store_book(words: &mut [u64], book: BookReconstructor, sets: bool)
-    requires { ⌜ 27 ≤ length (now words) ⌝ }
+    requires { ⌜ stateWords ≤ length (now words) ⌝ }
     ensures { λ _. ⌜ now (words .exit) ≡ restored (now (words .entry)) sets book ⌝ }
 {
     let status = book.status;
@@ -337,7 +337,7 @@ pub fn signed(word: u64) -> i64
     if word < 9223372036854775808 {
         word as i64
     } else {
-        !((18446744073709551615 - word) as i64)
+        !((u64::MAX - word) as i64)
     }
 }
 

@@ -98,7 +98,7 @@ fn signed(word: u64) -> i64
     if word < 9223372036854775808 {
         word as i64
     } else {
-        !((18446744073709551615 - word) as i64)
+        !((u64::MAX - word) as i64)
     }
 }
 

@@ -16,7 +16,7 @@ fn print_amount(word: u64) {
         print_number(word);
     } else {
         io::write_all(STDOUT_FILENO, b" -");
-        io::print_decimal(STDOUT_FILENO, 18446744073709551615 - word + 1);
+        io::print_decimal(STDOUT_FILENO, u64::MAX - word + 1);
     }
 }
 

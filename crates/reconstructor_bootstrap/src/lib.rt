@@ -22,6 +22,7 @@ ghost use lib.Dec.{ltb};
 ghost use Rattle.book.specs.Line.{rests, hasLevel};
 ghost use Rattle.book.specs.Rows.{Lent, mostRows, rowsOf, lineOf, idOf, sideOf, stored, snapshotKind, snapshotRow};
 ghost use Rattle.book.specs.Memory.{memory};
+ghost use Rattle.reconstructor_counts.specs.Counts.{largest};
 ghost use Rattle.reconstructor_state.specs.State.{ceiling};
 ghost use Rattle.reconstructor_checks.specs.StateChecks.{Usable};
 ghost use Rattle.reconstructor_bootstrap.specs.Numbers.{snapshotErrorNumber, snapshotTold, snapshotNumber};
@@ -397,7 +398,7 @@ fn close_last(status: Status, last: Segment) -> Segment
 
 // The state at the snapshot's sequence, with its `n` orders and one segment more.
 fn booted_book(book: BookReconstructor, sequence: u64, n: usize) -> BookReconstructor
-    requires { ⌜ book .segments + 1 < 18446744073709551616 ⌝ }
+    requires { ⌜ book .segments < largest ⌝ }
     ensures { λ r. ⌜ r ≡ bootedBook book sequence n ⌝ }
 {
     let product_id = book.product_id;
@@ -423,7 +424,7 @@ fn accept(
     snapshot: L3Snapshot,
 ) -> Work
     requires { ⌜ Room (now rows) (book .rows) (snapshot .bids + snapshot .asks) ⌝ }
-    requires { ⌜ book .segments + 1 < 18446744073709551616 ⌝ }
+    requires { ⌜ book .segments < largest ⌝ }
     ensures { λ r. ⌜ booted r (memory (now (rows .exit))) ≡ accepted book (memory (now (rows .entry))) last (snapshot .sequence) (snapshotLine snapshot (now (bytes .entry))) ⌝ }
 {
     let n = snapshot.bids + snapshot.asks;

@@ -44,7 +44,7 @@ pub enum Counter {
 pub fn saturating_next(x: u64) -> u64
     ensures { λ r. ⌜ r ≡ saturated x ⌝ }
 {
-    if x < 18446744073709551615 { x + 1 } else { x }
+    if x < u64::MAX { x + 1 } else { x }
 }
 
 // Adds one to the counter named, in place: the other eleven are neither read nor written.

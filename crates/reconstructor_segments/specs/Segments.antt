@@ -9,6 +9,7 @@ use lib.ListN.{getD, set}
 use Rattle.reconstructor_segments.specs.declared.Segment.{Segment}
 use Rattle.reconstructor_segments.specs.declared.SegmentName.{SegmentName}
 use Rattle.reconstructor_answers.specs.declared.Invalidation.{Invalidation}
+use Rattle.reconstructor_counts.specs.Counts.{largest}
 use Rattle.reconstructor_answers.specs.Numbers.{kindNumber, kindDetail}
 
 -- ---- a list of records
@@ -43,7 +44,7 @@ relast sg (suc n) g = set sg n g
 
 -- where it stands; where there is none, past any list's end
 abbrev pub lastPlace : ℕ → ℕ
-lastPlace zero = 18446744073709551615
+lastPlace zero = largest
 lastPlace (suc n) = n
 
 -- ---- what happens to a record

@@ -26,7 +26,7 @@ fn last_place(count: usize) -> usize
     ensures { λ r. ⌜ r ≡ lastPlace count ⌝ }
 {
     if count == 0 {
-        return 18446744073709551615;
+        return usize::MAX;
     }
     count - 1
 }

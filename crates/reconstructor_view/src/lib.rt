@@ -19,7 +19,7 @@ ghost use Rattle.reconstructor_view.specs.ValueReads.{standing, readRefu
 ghost use Rattle.reconstructor_view.specs.Numbers.{viewErrorNumber, findingNumber, sequenceTold, bestTold, auditedTold, invalidationTold, segmentTold};
 
 // The largest machine number.
-const LARGEST: usize = 18446744073709551615;
+const LARGEST: usize = usize::MAX;
 
 // Why no valid book is available: 1, 2, 3, 15, 18.
 pub enum ViewError {

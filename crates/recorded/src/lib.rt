@@ -1,4 +1,5 @@
 // A recorded call: its header, words of its payload, and a message piece read and then applied or stepped. Bytes that are not there are read as 0.
+use piece::MESSAGE_WORDS;
 ghost use mathlib.Core.Path.{_≡_};
 ghost use Prim.Native.Nat.{_<_, _≤_, min};
 ghost use lib.ListN.{getD};
@@ -96,7 +97,7 @@ pub fn load(words: &mut [u64], first: usize, bytes: &[u8])
 pub fn apply_piece(piece: &[u8], state: &mut [u64], rows: &mut [u64], segments: &mut [u64]) -> u64
     ensures { λ r. ⌜ called r (now (state .exit)) (now (rows .exit)) (now (segments .exit)) ≡ pieceCall (now (state .entry)) (now (rows .entry)) (now (segments .entry)) (now (piece .entry)) ⌝ }
 {
-    let mut message = [0u64; 21];
+    let mut message = [0u64; MESSAGE_WORDS];
     let number = host::pinuglaw_read_message(piece, &mut message);
     if number != 0 {
         return number;
@@ -114,7 +115,7 @@ pub fn step_piece(
 ) -> u64
     ensures { λ r. ⌜ stepCalled r (now (state .exit)) (now (rows .exit)) (now (segments .exit)) (now (handshake .exit)) ≡ pieceStep (now (state .entry)) (now (rows .entry)) (now (segments .entry)) (now (handshake .entry)) (now (piece .entry)) ⌝ }
 {
-    let mut message = [0u64; 21];
+    let mut message = [0u64; MESSAGE_WORDS];
     let number = host::pinuglaw_read_message(piece, &mut message);
     if number != 0 {
         return number;
