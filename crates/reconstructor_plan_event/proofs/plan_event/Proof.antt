@@ -2,9 +2,9 @@ use mathlib.Core.Path.{_≡_, refl}
 use mir.Syntax.{w64}
 use mir.Val.{toZ, ofZ}
 use borrow.Author.Needs.{needs}
 use Rattle.reconstructor_plan.specs.Rules.{eventRefusal, eventDeed, effect, counterOf}
-use Rattle.reconstructor_plan.proofs.plan_event.Statement.{statement}
-use Rattle.reconstructor_plan.proofs.plan_event.Tie as tie
+use Rattle.reconstructor_plan_event.proofs.plan_event.Statement.{statement}
+use Rattle.reconstructor_plan_event.proofs.plan_event.Tie as tie
 
 returns : tie.Need-returns
 unfolding eventRefusal eventDeed effect counterOf

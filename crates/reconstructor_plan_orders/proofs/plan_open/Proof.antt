@@ -2,12 +2,12 @@ use mathlib.Core.Path.{refl}
 use native.Mathlib.Omega.{arith}
 use borrow.Author.Tests.{ne-eqb, le-leb, lt-leb}
 use borrow.Author.Needs.{needs}
 use Rattle.reconstructor_plan.specs.Rules.{eventRefusal, openRefusal, eventDeed, effect, counterOf}
 use Rattle.reconstructor_state.proofs.Checks.{fails, goes-on, told-true, told-false, links}
 use Rattle.message.proofs.Signed.{sized}
 use Rattle.reconstructor_plan.proofs.Found.{it-rests, no-row, line-length}
-use Rattle.reconstructor_plan.proofs.plan_open.Statement.{statement}
-use Rattle.reconstructor_plan.proofs.plan_open.Tie as tie
+use Rattle.reconstructor_plan_orders.proofs.plan_open.Statement.{statement}
+use Rattle.reconstructor_plan_orders.proofs.plan_open.Tie as tie
 
 returns : tie.Need-returns
 unfolding eventRefusal openRefusal eventDeed effect counterOf
