@@ -19,7 +19,7 @@ use Rattle.message.specs.Values.{amountLimit, inRange, orderInRange, ordersInRa
 use Rattle.piece.specs.Piece.{bidsAt, asksAt, snapshotShaped, productIdAt, wordAt, orderAt, ordersFrom, snapshotOf, readSnapshot}
 use Rattle.book.specs.declared.Resting.{Resting}
 use Rattle.book.specs.Line.{Entry}
-use Rattle.book.specs.Rows.{rowsOf, stored, snapshotRow}
+use Rattle.book.specs.Rows.{rowWords, rowsOf, stored, snapshotRow}
 use Rattle.book.specs.Memory.{Memory, memory, ordersOf}
 use Rattle.book.specs.Broken.{WellFormed, someOutOfRange, SnapshotFits}
 use Rattle.reconstructor_state.specs.declared.Status.{Status}
@@ -185,7 +185,7 @@ module _ (top : ℕ) (b : BookReconstructor) (mem : Memory) (sg : List Segment) 
       rw (a .is)
       (record {
         within = a .before .within;
-        lent = or-both _ _ (le-ltb (length (stored (mem .rows) (b .rows) os)) (8 * b .rules .«max_orders») (omega (arith, f, m)))
+        lent = or-both _ _ (le-ltb (length (stored (mem .rows) (b .rows) os)) (rowWords * b .rules .«max_orders») (omega (arith, f, m)))
             (le-ltb (length (acceptedParts b mem sg t l .segments)) (b .segments + 1) (omega (arith, d, a .room)));
         sound = kept (bootedBook b t (length l)) (memory (stored (mem .rows) (b .rows) os)) os r n
             (snapshot-kept (b .rules .«max_orders») (b .rules .«max_levels») t l (a .fits))

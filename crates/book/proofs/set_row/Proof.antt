@@ -4,7 +4,7 @@ use native.Mathlib.Numerals.{add-one, add-two, add-three, add-four, add-five, ad
 use lib.ListN.{length-set}
 use lib.Seq.{sets-eq}
 use borrow.Author.Needs.{needs}
-use Rattle.book.specs.Rows.{setRow, wordsOf}
+use Rattle.book.specs.Rows.{rowWords, setRow, wordsOf}
 use Rattle.book.proofs.set_row.Statement.{statement}
 use Rattle.book.proofs.set_row.Tie as tie
 
@@ -36,7 +36,7 @@ returns : tie.Need-returns
 unfolding setRow
 returns c =
     simp (add-one, add-two, add-three, add-four, add-five, add-six, add-seven)
-    (sets-eq (wordsOf (c .args .order)) (c .args .rows .now) (8 * c .args .i) (omega arith))
+    (sets-eq (wordsOf (c .args .order)) (c .args .rows .now) (rowWords * c .args .i) (omega arith))
 
 pub set-row-spec : {M : Type 1} → statement M
 set-row-spec =
