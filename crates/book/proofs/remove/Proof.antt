@@ -1,3 +1,5 @@
+-- The loop keeps the rows `moved`: each place from `i` to below `k` has the row that was behind it, and the words past row `n` are as they were.
+-- At the last row nothing is left to move, and zeroing it gives `removeAt` with an empty row behind, which is how `stored` fills the freed row.
 use Prim.Native.Nat.{_≤_, _<_, _-_, _+_, _*_}
 use mathlib.Core.Path.{_≡_, _∙_, refl}
 use mathlib.Core.List.{[], _∷_, _++_}

@@ -1,3 +1,5 @@
+-- A number of `boundary` is the answer; at 0 the state block is whole, and loads as `bookOf`. No list is written here, unlike in `queue_estimate`,
+-- so the room for the estimate is left to `store_estimate`, which tells the answer as `toldIn` does.
 use Rattle.book.specs.Memory.{memory, extentOf}
 use mathlib.Core.Path.{sym, ap, _∙_}
 use Prim.Native.Nat.{ℕ}

@@ -1,3 +1,5 @@
+-- A number of `boundary` is the answer; at 0 the state block is whole, and loads as `bookOf`. The rows are tested by the read itself, and `store_last` tells
+-- what it answers as `toldIn` does.
 use Rattle.book.specs.Memory.{memory, extentOf}
 use mathlib.Core.Path.{sym, ap, _∙_}
 use Prim.Native.Nat.{ℕ}
