@@ -1,3 +1,5 @@
+-- Only an open asks anything of the bounds, and for it `bounds_for` holds the rows and the new price, which the code and the definition take from the amount
+-- alike. For any other event the bounds at hand serve, as they hold the rows.
 use mathlib.Core.Path.{_≡_, ap, _∙_}
 use mir.Syntax.{w64}
 use mir.Val.{toZ, ofZ}
