@@ -1,3 +1,5 @@
+-- `boundary` answers the definition's number, and 0 only where the state has the words that `load_book` reads. The book loaded is the definition's, so the
+-- best prices read and stored are the ones that it tells.
 use Rattle.book.specs.Memory.{memory, extentOf}
 use mathlib.Core.Path.{sym, ap, _∙_}
 use Prim.Native.Nat.{ℕ}
