@@ -3,14 +3,14 @@
 use Prim.Native.Nat.{ℕ, zero, suc, _+_, _*_, _-_, _<_, _≤_, max}
 use mathlib.Core.Path.{_≡_, refl, sym, ap, ap₂, _∙_}
 use mathlib.Core.Bool.{Bool, true, false, cond}
-use mathlib.Core.List.{List, [], _∷_, _++_, append-assoc, append-nil}
+use mathlib.Core.List.{List, _∷_, _++_, append-assoc, append-nil}
 use mathlib.Core.Option.{none, some}
-use native.Mathlib.Nat.{add-zero, zero-add, sub-zero, sub-self}
+use native.Mathlib.Nat.{add-zero, zero-add, sub-zero}
 use native.Mathlib.Numerals.{add-one}
 use native.Mathlib.Omega.{arith}
 use lib.Dec.{eqb}
-use lib.ListN.{length, getD, drop, set, replicate, length-append, length-drop, length-set, length-replicate, replicate-append-replicate}
-use lib.Seq.{drop-cons, drop-at, getD-append-add, drop-drop}
+use lib.ListN.{length, getD, drop, set, replicate, length-append, length-drop, length-set, length-replicate}
+use lib.Seq.{drop-cons, getD-append-add}
 use Rattle.message.specs.declared.OrderId.{OrderId}
 use Rattle.message.specs.Same.{sameId}
 use Rattle.book.specs.declared.Found.the-variants.{At, Nothing}
@@ -120,15 +120,6 @@ pub length-stored : (ws : List ℕ) (n : ℕ) (os : List Resting) → rowWords *
 unfolding stored
 length-stored ws n os h k =
     simp (length-append, length-drop) (omega (arith, length-encode os, length-replicate {A = ℕ} (rowWords * (n - length os)) 0))
-
--- words past the last row, old and new, are untouched
-pub stored-past : (ws : List ℕ) (n : ℕ) (os : List Resting) → drop (rowWords * max n (length os)) (stored ws n os) ≡ drop (rowWords * max n (length os)) ws
-unfolding stored
-stored-past ws n os =
-    let z : length (encodeAll os ++ replicate {A = ℕ} (rowWords * (n - length os)) 0) ≡ rowWords * max n (length os) =
-    simp length-append (omega (arith, length-encode os, length-replicate {A = ℕ} (rowWords * (n - length os)) 0)) in
-    rw (← (append-assoc (encodeAll os) (replicate (rowWords * (n - length os)) 0) (drop (rowWords * max n (length os)) ws)))
-    (drop-at (encodeAll os ++ replicate (rowWords * (n - length os)) 0) (drop (rowWords * max n (length os)) ws) (rowWords * max n (length os)) z)
 
 -- ---- what a search tells
 

@@ -1,3 +1,5 @@
+-- Each of the eight writes leaves the length as it was, so all are within the words; and eight writes at places in a row put `wordsOf` the order in place of
+-- the words there (`sets-eq`), which is `setRow`.
 use Prim.Native.Nat.{_*_}
 use native.Mathlib.Omega.{arith}
 use native.Mathlib.Numerals.{add-one, add-two, add-three, add-four, add-five, add-six, add-seven}

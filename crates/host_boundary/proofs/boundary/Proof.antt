@@ -1,3 +1,5 @@
+-- The tests are those of the definition, in its order. The first one passed says that the state has its 27 words, so the rules can be loaded from a state that
+-- is no book's.
 use Rattle.host_words.specs.Block.{stateWords}
 use borrow.Author.Tests.{ltb-false, not-true, not-false}
 use lib.Dec.{ltb}

@@ -1,3 +1,5 @@
+-- The eight writes go to the places from `8 * i` on, a field each in the order of `encodeRecord`, and none changes the length; so all are within the words,
+-- and together they put the record's words in place of those there (`sets-eq`).
 use Prim.Native.Nat.{_*_}
 use native.Mathlib.Omega.{arith}
 use native.Mathlib.Numerals.{add-one, add-two, add-three, add-four, add-five, add-six, add-seven}

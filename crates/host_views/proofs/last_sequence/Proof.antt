@@ -5,7 +5,6 @@ use mathlib.Core.Path.{sym, ap, _∙_}
 use Prim.Native.Nat.{ℕ}
 use mathlib.Core.Bool.{false}
 use borrow.Author.Tests.{eq-eqb}
-use lib.ListN.{length}
 use Rattle.host_boundary.proofs.Passed.{passed, turned-away, goes-on}
 use Rattle.reconstructor_view.specs.Numbers.{sequenceTold}
 use Rattle.host_answers.specs.Answers.{answered, toldIn}
