@@ -1,3 +1,5 @@
+-- The search finds the order that `find` has in the line, or both find none; then the tests are those of `changeRefusal`, in its order. Past them the new size
+-- is equal to what is left, and nothing is done, or smaller, and a cut of the found row is `cutRows` by its id (`cut-outcome`).
 use mathlib.Core.Path.{_≡_, _∙_, ap, refl}
 use native.Mathlib.Omega.{arith}
 use borrow.Author.Tests.{eq-eqb, ne-eqb, lt-ltb, le-ltb}

@@ -1,3 +1,5 @@
+-- What the search finds in the rows is what the rules find in the line, so each test is theirs, in their order. Past the last one the maker's row, cut by the
+-- size and gone at zero, is the line that they leave (`cut-outcome`), under any rules and at any sequence.
 use mathlib.Core.Path.{refl}
 use native.Mathlib.Omega.{arith}
 use borrow.Author.Tests.{ne-eqb, le-ltb}

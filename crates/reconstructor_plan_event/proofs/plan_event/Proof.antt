@@ -1,3 +1,5 @@
+-- By the kind of event: the contract of each kind's plan is this one at that kind, for any rules and sequence where it looks at none. A received event is
+-- only counted, and an unsupported one is refused.
 use mathlib.Core.Path.{_≡_, refl}
 use mir.Syntax.{w64}
 use mir.Val.{toZ, ofZ}

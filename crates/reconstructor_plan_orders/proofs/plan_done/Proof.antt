@@ -1,3 +1,5 @@
+-- The search finds the order that `find` has in the line, or both find none, which is no effect; then the tests are those of `doneRefusal`, in its order,
+-- and a fill never passes. Past them the found row is removed, which is `cutRows` by its id to 0.
 use mathlib.Core.Path.{refl}
 use native.Mathlib.Omega.{arith}
 use borrow.Author.Needs.{needs}

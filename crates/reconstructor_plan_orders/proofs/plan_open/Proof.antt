@@ -1,3 +1,5 @@
+-- Search, amounts, crossing and room are the rules' own tests of the line, in the order of `openRefusal`. Past them `n` is below the limit of orders, for
+-- which the words have room, so the row can be inserted; and it is the one that the rules add.
 use mathlib.Core.Path.{refl}
 use native.Mathlib.Omega.{arith}
 use borrow.Author.Tests.{ne-eqb, le-leb, lt-leb}
