@@ -37,7 +37,7 @@ abbrev pub rowsBroken : ℕ → List Resting → Bool
 rowsBroken maxLevels os =
     someRowBroken os || (idTwice (lineOf os) || (ltb maxLevels (levels (lineOf os)) || crossed (lineOf os)))
 
--- the same of n rows in lent words. More rows than the mostRows, or than the words hold, are no book either: a caller has said 2, and
+-- the same of n rows in lent words. More rows than `mostRows`, or than the words hold, are no book either: a caller has said 2, and
 -- "rows above max_orders", before
 abbrev pub wordsBroken : ℕ → List ℕ → ℕ → Bool
 wordsBroken maxLevels ws n = ltb mostRows n || (ltb (length ws) (rowWords * n) || rowsBroken maxLevels (rowsOf ws n))

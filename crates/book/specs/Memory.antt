@@ -21,8 +21,11 @@ memory ws = record { rows = ws }
 pub record Extent : Type 0 where
   pub rows : ℕ
 
+abbrev pub extent : ℕ → Extent
+extent n = record { rows = n }
+
 abbrev pub extentOf : Memory → Extent
-extentOf m = record { rows = length (m .rows) }
+extentOf m = extent (length (m .rows))
 
 -- a call is lent the front of it; afterwards what the call left stands before what is behind
 abbrev pub front : Extent → Memory → Memory

@@ -50,7 +50,7 @@ rowsFrom ws i (suc k) = rowAt ws i ∷ rowsFrom ws (i + 1) k
 abbrev pub rowsOf : List ℕ → ℕ → List Resting
 rowsOf ws n = rowsFrom ws 0 n
 
--- the words hold n rows, and n is within the mostRows
+-- the words hold n rows, and n is within `mostRows`
 pub record Lent (ws : List ℕ) (n : ℕ) : Type 0 where
   pub room : rowWords * n ≤ length ws
   pub few : n ≤ mostRows

@@ -105,7 +105,7 @@ pub extern "C" fn pinuglaw_bootstrap(
     host_bootstrap::bootstrap(state, rows, segments, bytes)
 }
 
-// A handshake for the segment that the book is in, into four words; crate `host_handshake` has the layout in specs/Steps.antt. Before any snapshot it has ended. Answers 0
+// A handshake for the segment that the book is in, into four words; crate `host_handshake` has the layout in specs/HandshakeWords.antt. Before any snapshot it has ended. Answers 0
 // or 7.
 #[no_mangle]
 pub extern "C" fn pinuglaw_handshake(state: &[u64], handshake: &mut [u64]) -> u64

@@ -2,6 +2,7 @@
 use host_words::STATE_WORDS;
 use host_words::load_rules;
 use reconstructor_state::VenueRules;
+ghost use Rattle.book.specs.Memory.{extent};
 ghost use mathlib.Core.Path.{_≡_};
 ghost use Prim.Native.Nat.{_≤_};
 ghost use lib.Dec.{ltb};
@@ -93,7 +94,7 @@ fn no_book(words: &[u64]) -> bool
 
 fn no_book_number(top: usize, rules: VenueRules, rows: usize, less: bool) -> u64
     requires { ⌜ top ≤ mostRows ⌝ }
-    ensures { λ r. ⌜ r ≡ noBookNumber top rules (record { rows = rows }) less ⌝ }
+    ensures { λ r. ⌜ r ≡ noBookNumber top rules (extent rows) less ⌝ }
 {
     if reconstructor_checks::over_ceiling(top, rules) {
         return 1;
@@ -121,7 +122,7 @@ pub fn scratch_short(state: &[u64], scratch: usize) -> bool
 // The number that a call with so many words of rows is turned away with, or 0. `less` says that its list or scratch is too short, `short` and `wrong` that its other
 // inputs are too short or are those of no value.
 pub fn boundary(state: &[u64], rows: usize, less: bool, short: bool, wrong: bool) -> u64
-    ensures { λ r. ⌜ r ≡ boundary (now (state .entry)) (record { rows = rows }) less short wrong ⌝ }
+    ensures { λ r. ⌜ r ≡ boundary (now (state .entry)) (extent rows) less short wrong ⌝ }
 {
     if (state.len() < STATE_WORDS) | short {
         return SHORT_INPUT;

@@ -1,4 +1,4 @@
-// A handshake as words. specs/Steps.antt has the layout.
+// A handshake as words. specs/HandshakeWords.antt has the layout.
 use host_words::sets_status;
 use laws::put;
 use reconstructor_handshake::Handshake;

@@ -17,7 +17,7 @@ ghost use mathlib.Core.Bool.{false};
 ghost use mathlib.Core.List.{[]};
 ghost use lib.Dec.{ltb};
 ghost use lib.ListN.{getD};
-ghost use Rattle.book.specs.Memory.{memory};
+ghost use Rattle.book.specs.Memory.{memory, extent};
 ghost use Rattle.reconstructor_state.specs.State.{ceiling};
 ghost use Rattle.reconstructor_view.specs.ValueReads.{readRefusalOf};
 ghost use Rattle.reconstructor_reads.specs.declared.Shown.the-variants.{OutputTooSmall};
@@ -29,7 +29,7 @@ ghost use Rattle.host_levels.specs.Levels.{levelCalled, queueCall, profi
 
 // What the words of a level read are turned away for.
 fn level_boundary(state: &[u64], rows: usize, scratch: usize, side: u64) -> u64
-    ensures { λ r. ⌜ r ≡ boundary (now (state .entry)) (record { rows = rows }) (ltb scratch (getD (now (state .entry)) 3 0)) false (noBit side) ⌝ }
+    ensures { λ r. ⌜ r ≡ boundary (now (state .entry)) (extent rows) (ltb scratch (getD (now (state .entry)) 3 0)) false (noBit side) ⌝ }
 {
     let less = scratch_short(state, scratch);
     boundary(state, rows, less, false, no_bit(side))

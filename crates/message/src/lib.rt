@@ -1,4 +1,4 @@
-// Order by order (L3) messages and snapshots: the values of message.rs. Crate `piece` reads them from bytes.
+// Order by order (L3) messages and snapshots: the values of message.rs. Crates `piece_messages` and `piece_snapshots` read them from bytes.
 ghost use mathlib.Core.Path.{_≡_};
 ghost use Rattle.message.specs.Same.{sameSide, sameId, sameProduct};
 

@@ -58,7 +58,7 @@ pub record Parts : Type 0 where
 abbrev pub leaves : Reply → Memory → List Segment → Parts
 leaves r mem sg = record { answer = r .answer; book = r .book; memory = mem; segments = sg }
 
--- the record put back as the last of a list's first n
+-- the record put back as the last of a list's first n; put back as it was, it leaves the list as it was
 abbrev pub putBack : List Segment → ℕ → Worked → Parts
 putBack sg n w = record { answer = w .answer; book = w .book; memory = w .memory; segments = relast sg n (w .segment) }
 

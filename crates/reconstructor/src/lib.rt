@@ -1,5 +1,5 @@
-// One message applied to a book: `apply_by_value` checks the state and what it is lent, then `apply_trusted` works the message; `apply` lends them the last
-// segment's record and writes it back.
+// One message applied to a book: `apply_under` checks the state and what it is lent, then `apply_trusted` works the message; `apply_by_value` has our ceiling,
+// and `apply` lends it the last segment's record and writes it back.
 use book_index::Bounds;
 use message::L3Message;
 use reconstructor_answers::Applied;

@@ -50,7 +50,7 @@ pub record Parts : Type 0 where
 abbrev pub leaves : Reply → Memory → List Segment → Parts
 leaves r mem sg = record { answer = r .answer; book = r .book; memory = mem; segments = sg }
 
--- the record put back as the last of a list's first n, and then the started one at its place
+-- the record put back as the last of a list's first n (as it was, it leaves the list as it was), and then the started one at its place
 abbrev pub putBack : List Segment → ℕ → Booted → Parts
 putBack sg n w =
     record {

@@ -89,7 +89,7 @@ pub record StepParts : Type 0 where
 abbrev pub stepLeaves : StepReply → Memory → List Segment → StepParts
 stepLeaves r mem sg = record { answer = r .answer; handshake = r .handshake; book = r .book; memory = mem; segments = sg }
 
--- the record put back as the last of a list's first n
+-- the record put back as the last of a list's first n; put back as it was, it leaves the list as it was
 abbrev pub putBack : List Segment → ℕ → StepWorked → StepParts
 putBack sg n w =
     record { answer = w .answer; handshake = w .handshake; book = w .book; memory = w .memory; segments = relast sg n (w .segment) }

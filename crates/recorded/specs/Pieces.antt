@@ -4,12 +4,13 @@ use mathlib.Core.List.{List}
 use mathlib.Core.Bool.{cond}
 use lib.Dec.{eqb}
 use lib.ListN.{replicate}
+use Rattle.piece.specs.Words.{messageWords}
 use Rattle.piece.specs.Piece.{readMessage}
 use Rattle.host_pieces.specs.Pieces.{messageNumber, messageOut}
 use Rattle.host_calls.specs.Calls.{Call, called, applyCall, StepCall, stepCalled, stepCall}
 
 abbrev pub blank : List ℕ
-blank = replicate 21 0
+blank = replicate messageWords 0
 
 unfoldable pub readNumber : List ℕ → ℕ
 readNumber bytes = messageNumber blank (readMessage bytes)
