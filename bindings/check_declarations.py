@@ -3,8 +3,9 @@
 
     check_declarations.py [ROOT]
 
-Names, order of parameters, widths, const or not; the numbers of 01's table; the word layouts that a definition names field by field. Prints each difference;
-exits 1 if there is one, or if a file has nothing to compare.
+Names, order of parameters, widths, const or not; the numbers of 01's table; the word layouts that a definition names field by field; the sizes and bounds, which
+the header, the code that runs, the definitions and the oracle name once each. Prints each difference; exits 1 if there is one, or if a file has nothing to
+compare.
 """
 
 import re
@@ -99,10 +100,69 @@ def defined(prefix, file, function, index):
     return {f"{prefix}_{name.upper()}": int(place or 0) for name, place in re.findall(index, body)}
 
 
-def definitions():
-    words = defined("STATE", "crates/host_words/specs/Block.antt", "countsOf", r"«?(\w+)»? = getD ws (\d+) 0")
-    records = "crates/host_records/specs/Records.antt"
-    return words | defined("SEGMENT", records, "recordAt", r"«?(\w+)»? = getD ws \(8 \* i(?: \+ (\d+))?\) 0")
+def state_words():
+    return defined("STATE", "crates/host_words/specs/Block.antt", "countsOf", r"«?(\w+)»? = getD ws (\d+) 0")
+
+
+def segment_words():
+    return defined("SEGMENT", "crates/host_records/specs/Records.antt", "recordAt", r"«?(\w+)»? = getD ws \(recordWords \* i(?: \+ (\d+))?\) 0")
+
+
+# A size or bound of the header: the file and name in the code, and those in the definitions.
+SIZES = {
+    "CEILING": ("reconstructor_state/src/lib.rt", "CEILING", "reconstructor_state/specs/State.antt", "ceiling"),
+    "ROW_WORDS": ("book/src/lib.rt", "ROW_WORDS", "book/specs/Rows.antt", "rowWords"),
+    "SEGMENT_WORDS": ("host_records/src/lib.rt", "RECORD_WORDS", "host_records/specs/Records.antt", "recordWords"),
+    "STATE_WORDS": ("host_words/src/lib.rt", "STATE_WORDS", "host_words/specs/Block.antt", "stateWords"),
+    "MESSAGE_WORDS": ("piece/src/lib.rt", "MESSAGE_WORDS", "piece/specs/Words.antt", "messageWords"),
+    "HANDSHAKE_WORDS": ("host_handshake/src/lib.rt", "HANDSHAKE_WORDS", "host_handshake/specs/HandshakeWords.antt", "handshakeWords"),
+    "ESTIMATE_WORDS": ("host_estimate_words/src/lib.rt", "ESTIMATE_WORDS", "host_estimate_words/specs/Estimates.antt", "estimateWords"),
+    "QUEUE_WORDS": ("reconstructor_reads/src/lib.rt", "QUEUE_WORDS", "book_queue/specs/Queue.antt", "entryWidth Queue"),
+    "AHEAD_WORDS": ("queue/src/lib.rt", "AHEAD_ENTRY_WORDS", "book_queue/specs/Queue.antt", "entryWidth Ahead"),
+    "PROFILE_WORDS": ("reconstructor_reads/src/lib.rt", "PROFILE_WORDS", "reconstructor_reads/specs/LevelReads.antt", "profileWords"),
+    "L2_WORDS": ("reconstructor_reads/src/lib.rt", "L2_WORDS", "reconstructor_reads/specs/LevelReads.antt", "l2Words"),
+}
+
+# Those that the oracle names for itself, since its model is written from the paper alone.
+ORACLE = {
+    "CEILING": [("call.rs", "CEILING"), ("model/book.rs", "CEILING")],
+    "ROW_WORDS": [("call.rs", "ROW_WORDS"), ("model/rows.rs", "ROW_WORDS"), ("ported/book.rs", "ROW")],
+    "SEGMENT_WORDS": [("ported/book.rs", "RECORD"), ("vectors/words.rs", "RECORD")],
+    "STATE_WORDS": [("vectors/words.rs", "BLOCK")],
+    "AHEAD_WORDS": [("model/queue.rs", "ENTRY_WORDS")],
+}
+
+# The index and an estimate's list hold as many orders as the ceiling admits. A bound that parts from the ceiling leaves this table.
+AS_THE_CEILING = [
+    ("crates/book/src/lib.rt", r"const MOST_ROWS: \w+ = ([\d_]+);"),
+    ("crates/book/specs/Rows.antt", r"^mostRows = (\d+)"),
+    ("crates/queue_ahead/src/lib.rt", r"const LIST_BOUND: \w+ = ([\d_]+);"),
+    ("crates/queue/specs/Estimates.antt", r"^listBound = (\d+)"),
+]
+
+
+def value(file, pattern):
+    """The one number that `pattern` finds, none where the file names it not at all or twice."""
+    found = re.findall(pattern, read(file), re.M)
+    return int(found[0]) if len(found) == 1 else None
+
+
+def in_code(file, name):
+    return value(f"crates/{file}", rf"const {name}: \w+ = ([\d_]+);")
+
+
+def size_differences(constants):
+    """Where a size of the header is another one in the code, the definitions or the oracle."""
+    for name, (code, const, spec, definition) in SIZES.items():
+        places = [(f"crates/{code}", in_code(code, const)), (f"crates/{spec}", value(f"crates/{spec}", rf"^{definition} = (\d+)"))]
+        for file, const in ORACLE.get(name, []):
+            file = f"tools/oracle/src/{file}"
+            places.append((file, value(file, rf"const {const}: \w+ = ([\d_]+);")))
+        if name == "CEILING":
+            places += [(file, value(file, pattern)) for file, pattern in AS_THE_CEILING]
+        for file, number in places:
+            if number != constants.get(name):
+                yield f"{file} and {HEADER}: {name}: {number} is not {constants.get(name)}"
 
 
 def differences(what, one, other):
@@ -118,8 +178,9 @@ def all_differences():
     yield from differences(f"{HOST} and {HEADER}", expected_in_c(), in_header())
     yield from differences(f"{HOST} and {SYS}", exported(), in_sys())
     constants = header_constants()
-    for what, part in [(SYS, sys_constants()), ("specs", definitions())]:
+    for what, part in [(SYS, sys_constants()), ("the state's words", state_words()), ("a record's words", segment_words())]:
         yield from differences(f"{what} and {HEADER}", part, {k: v for k, v in constants.items() if k in part})
+    yield from size_differences(constants)
     if header_numbers() != table_numbers():
         yield f"{HEADER} and {SCOPE}: the numbers differ: {sorted(header_numbers() ^ table_numbers())}"
 

@@ -20,7 +20,7 @@ use Rattle.book.specs.declared.Decrease.the-variants.{Unmarked, Marked}
 use Rattle.book.specs.declared.Found.the-variants.{At}
 use Rattle.book.specs.declared.Resting.{Resting}
 use Rattle.book.specs.Line.{Entry, rests, left, cut, sameLevel, volume, hasLevel, levels, crossed, wouldCross}
-use Rattle.book.specs.Rows.{emptyRow, Lent, mostRows, rowAt, rowsFrom, rowsOf, idOf, sideOf, entryOf, lineOf, findRow, removeAt, reduced, cutRows, snapshotKind, snapshotRow}
+use Rattle.book.specs.Rows.{rowWords, emptyRow, Lent, mostRows, rowAt, rowsFrom, rowsOf, idOf, sideOf, entryOf, lineOf, findRow, removeAt, reduced, cutRows, snapshotKind, snapshotRow}
 use Rattle.message.specs.Values.{amountLimit}
 use Rattle.book.specs.Broken.{outOfRange, flagBroken, rowBroken, someRowBroken, idTwice, rowsBroken, wordsBroken, WellFormed, OpenFits, someOutOfRange, SnapshotFits}
 use Rattle.book.proofs.Rows.{rows-split, length-rows, length-remove, remove-eq, getD-rows}
@@ -264,10 +264,10 @@ not-broken mo ml os w =
 -- what a caller has once the test on lent words is passed
 pub words-formed : (ml : ℕ) (ws : List ℕ) (n : ℕ) → wordsBroken ml ws n ≡ false → Lent ws n × WellFormed mostRows ml (rowsOf ws n)
 words-formed ml ws n h =
-    let a = or-no (ltb mostRows n) (ltb (length ws) (8 * n) || rowsBroken ml (rowsOf ws n)) h in
-    let b = or-no (ltb (length ws) (8 * n)) (rowsBroken ml (rowsOf ws n)) (a .1) in
+    let a = or-no (ltb mostRows n) (ltb (length ws) (rowWords * n) || rowsBroken ml (rowsOf ws n)) h in
+    let b = or-no (ltb (length ws) (rowWords * n)) (rowsBroken ml (rowsOf ws n)) (a .1) in
     let few : n ≤ mostRows = ltb-false mostRows n (a .0) in (
-      record { room = ltb-false (length ws) (8 * n) (b .0); few = few },
+      record { room = ltb-false (length ws) (rowWords * n) (b .0); few = few },
       broken-not mostRows ml (rowsOf ws n) (omega (arith, few, length-rows ws 0 n)) (b .1),
     )
 

@@ -11,7 +11,7 @@ use lib.ListN.{length, getD, take, drop, set, length-append, length-drop}
 use lib.Seq.{set-at, getD-at, take-nil, length-take-le}
 use Rattle.laws.proofs.Splice.{splice-length, splice-before, splice-in, splice-past, splice-rest, moved, move-step, move-end}
 use Rattle.book.specs.declared.Resting.{Resting}
-use Rattle.book.specs.Rows.{rowAt, rowsFrom, setRow, wordsOf, removeAt}
+use Rattle.book.specs.Rows.{rowWords, rowAt, rowsFrom, setRow, wordsOf, removeAt}
 
 -- ---- a row
 
@@ -21,30 +21,30 @@ row-path p0 p1 p2 p3 p4 p5 p6 p7 =
     λ k. record { high = p0 k; low = p1 k; price = p2 k; remaining = p3 k; kind = p4 k; «entered_at» = p5 k; decreased = p6 k; «decreased_at» = p7 k }
 
 -- two rows with the same words are the same order
-pub row-same : (ws vs : List ℕ) (i j : ℕ) → ((f : ℕ) → f < 8 → getD ws (8 * i + f) 0 ≡ getD vs (8 * j + f) 0) → rowAt ws i ≡ rowAt vs j
+pub row-same : (ws vs : List ℕ) (i j : ℕ) → ((f : ℕ) → f < 8 → getD ws (rowWords * i + f) 0 ≡ getD vs (rowWords * j + f) 0) → rowAt ws i ≡ rowAt vs j
 row-same ws vs i j h =
     row-path (simp add-zero at (h 0 (lit< tt))) (h 1 (lit< tt)) (h 2 (lit< tt)) (h 3 (lit< tt)) (h 4 (lit< tt)) (h 5 (lit< tt)) (h 6 (lit< tt)) (h 7 (lit< tt))
 
-module _ (ws : List ℕ) (i : ℕ) (o : Resting) (fits : 8 * i + 8 ≤ length ws) where
+module _ (ws : List ℕ) (i : ℕ) (o : Resting) (fits : rowWords * i + 8 ≤ length ws) where
   pub length-setRow : length (setRow ws i o) ≡ length ws
   unfolding setRow
-  length-setRow = splice-length ws (wordsOf o) (8 * i) (8 * i + 8) refl fits
+  length-setRow = splice-length ws (wordsOf o) (rowWords * i) (rowWords * i + 8) refl fits
 
   pub setRow-same : rowAt (setRow ws i o) i ≡ o
   unfolding setRow
   setRow-same =
-      let at : (f : ℕ) → f < 8 → getD (setRow ws i o) (8 * i + f) 0 ≡ getD (wordsOf o) f 0 = splice-in ws (wordsOf o) (8 * i) (8 * i + 8) refl fits 0 in
+      let at : (f : ℕ) → f < 8 → getD (setRow ws i o) (rowWords * i + f) 0 ≡ getD (wordsOf o) f 0 = splice-in ws (wordsOf o) (rowWords * i) (rowWords * i + 8) refl fits 0 in
       row-path (simp add-zero at (at 0 (lit< tt))) (at 1 (lit< tt)) (at 2 (lit< tt)) (at 3 (lit< tt)) (at 4 (lit< tt)) (at 5 (lit< tt)) (at 6 (lit< tt)) (at 7 (lit< tt))
 
   pub setRow-before : (j : ℕ) → j < i → rowAt (setRow ws i o) j ≡ rowAt ws j
   unfolding setRow
   setRow-before j h =
-      row-same (setRow ws i o) ws j j (λ f hf. splice-before ws (wordsOf o) (8 * i) (8 * i + 8) refl fits 0 (8 * j + f) (omega arith))
+      row-same (setRow ws i o) ws j j (λ f hf. splice-before ws (wordsOf o) (rowWords * i) (rowWords * i + 8) refl fits 0 (rowWords * j + f) (omega arith))
 
   pub setRow-after : (j : ℕ) → i < j → rowAt (setRow ws i o) j ≡ rowAt ws j
   unfolding setRow
   setRow-after j h =
-      row-same (setRow ws i o) ws j j (λ f hf. splice-past ws (wordsOf o) (8 * i) (8 * i + 8) refl fits 0 (8 * j + f) (omega arith))
+      row-same (setRow ws i o) ws j j (λ f hf. splice-past ws (wordsOf o) (rowWords * i) (rowWords * i + 8) refl fits 0 (rowWords * j + f) (omega arith))
 
 -- ---- the list of orders
 
@@ -99,7 +99,7 @@ rows-around ws n i h =
 pub getD-rows : (ws : List ℕ) (n i : ℕ) (d : Resting) → i < n → getD (rowsFrom ws 0 n) i d ≡ rowAt ws i
 getD-rows ws n i d h = rw (rows-around ws n i h, getD-at (rowsFrom ws 0 i) _ _ d i (length-rows ws 0 i))
 
-module _ (ws : List ℕ) (n i : ℕ) (o : Resting) (fits : 8 * n ≤ length ws) (h : i < n) where
+module _ (ws : List ℕ) (n i : ℕ) (o : Resting) (fits : rowWords * n ≤ length ws) (h : i < n) where
   before-same : rowsFrom (setRow ws i o) 0 i ≡ rowsFrom ws 0 i
   before-same = rows-same _ _ 0 0 i (λ f hf. rw zero-add (setRow-before ws i o (omega arith) f hf))
 
@@ -116,12 +116,12 @@ module _ (ws : List ℕ) (n i : ℕ) (o : Resting) (fits : 8 * n ≤ length ws) 
       )
 
   -- and leaves the words after the list as they were
-  pub rest-set : drop (8 * n) (setRow ws i o) ≡ drop (8 * n) ws
+  pub rest-set : drop (rowWords * n) (setRow ws i o) ≡ drop (rowWords * n) ws
   unfolding setRow
-  rest-set = splice-rest ws (wordsOf o) (8 * i) (8 * i + 8) refl (omega arith) (8 * n) (omega arith)
+  rest-set = splice-rest ws (wordsOf o) (rowWords * i) (rowWords * i + 8) refl (omega arith) (rowWords * n) (omega arith)
 
 -- writing the row after the last is adding an order
-pub rows-push : (ws : List ℕ) (n : ℕ) (o : Resting) → 8 * n + 8 ≤ length ws → rowsFrom (setRow ws n o) 0 (n + 1) ≡ rowsFrom ws 0 n ++ (o ∷ [])
+pub rows-push : (ws : List ℕ) (n : ℕ) (o : Resting) → rowWords * n + 8 ≤ length ws → rowsFrom (setRow ws n o) 0 (n + 1) ≡ rowsFrom ws 0 n ++ (o ∷ [])
 rows-push ws n o fits =
     rows-around (setRow ws n o) (n + 1) n (omega arith)
     ∙ rw (before-same ws (n + 1) n o (omega arith) (omega arith), setRow-same ws n o fits, rows-done (setRow ws n o) (n + 1) (n + 1) (omega arith))
@@ -133,7 +133,7 @@ remove-eq [] i = sym (rw take-nil)
 remove-eq (o ∷ os) zero = refl
 remove-eq (o ∷ os) (suc i) = ap {B = List Resting} (λ r. o ∷ r) (remove-eq os i)
 
-module _ (l : List Resting) (ws : List ℕ) (n at i : ℕ) (o : Resting) (fits : 8 * n ≤ length ws) (len : length l ≡ n) (from : at ≤ i)
+module _ (l : List Resting) (ws : List ℕ) (n at i : ℕ) (o : Resting) (fits : rowWords * n ≤ length ws) (len : length l ≡ n) (from : at ≤ i)
     (so : rowsFrom ws 0 n ≡ moved l at (i - at)) where
   -- a turn: the row after i is copied to row i
   pub remove-turn : i + 1 < n → o ≡ rowAt ws (i + 1) → rowsFrom (setRow ws i o) 0 n ≡ moved l at (i + 1 - at)

@@ -3,21 +3,21 @@
 use Prim.Native.Nat.{ℕ, zero, suc, _+_, _*_, _-_, _<_, _≤_, max}
 use mathlib.Core.Path.{_≡_, refl, sym, ap, ap₂, _∙_}
 use mathlib.Core.Bool.{Bool, true, false, cond}
-use mathlib.Core.List.{List, [], _∷_, _++_, append-assoc, append-nil}
+use mathlib.Core.List.{List, _∷_, _++_, append-assoc, append-nil}
 use mathlib.Core.Option.{none, some}
-use native.Mathlib.Nat.{add-zero, zero-add, sub-zero, sub-self}
+use native.Mathlib.Nat.{add-zero, zero-add, sub-zero}
 use native.Mathlib.Numerals.{add-one}
 use native.Mathlib.Omega.{arith}
 use lib.Dec.{eqb}
-use lib.ListN.{length, getD, drop, set, replicate, length-append, length-drop, length-set, length-replicate, replicate-append-replicate}
-use lib.Seq.{drop-cons, drop-at, getD-append-add, drop-drop}
+use lib.ListN.{length, getD, drop, set, replicate, length-append, length-drop, length-set, length-replicate}
+use lib.Seq.{drop-cons, getD-append-add}
 use Rattle.message.specs.declared.OrderId.{OrderId}
 use Rattle.message.specs.Same.{sameId}
 use Rattle.book.specs.declared.Found.the-variants.{At, Nothing}
 use Rattle.book.specs.declared.Decrease.{Decrease}
 use Rattle.book.specs.declared.Resting.{Resting}
 use Rattle.book.specs.Line.{find}
-use Rattle.book.specs.Rows.{emptyRow, rowAt, rowsFrom, rowsOf, setRow, wordsOf, encodeAll, stored, removeAt, idOf, entryOf, lineOf, findRow, reduced, cutRows}
+use Rattle.book.specs.Rows.{rowWords, emptyRow, rowAt, rowsFrom, rowsOf, setRow, wordsOf, encodeAll, stored, removeAt, idOf, entryOf, lineOf, findRow, reduced, cutRows}
 use Rattle.book.proofs.Rows.{row-same, rows-set, rest-set, rows-push, length-rows, length-setRow, length-remove, getD-rows}
 
 pub encode-append : (a b : List Resting) → encodeAll (a ++ b) ≡ encodeAll a ++ encodeAll b
@@ -28,23 +28,23 @@ encode-append (o ∷ a) b = ap (λ (x : List ℕ). wordsOf o ++ x) (encode-appen
 next-word : (ws : List ℕ) (j k : ℕ) → j + 1 ≡ k → j < length ws → drop j ws ≡ getD ws j 0 ∷ drop k ws
 next-word ws j k e h = rw (← e, add-one j) (drop-cons ws j 0 h)
 
-row-words : (ws : List ℕ) (i : ℕ) → 8 * i + 8 ≤ length ws → drop (8 * i) ws ≡ wordsOf (rowAt ws i) ++ drop (8 * (i + 1)) ws
+row-words : (ws : List ℕ) (i : ℕ) → rowWords * i + 8 ≤ length ws → drop (rowWords * i) ws ≡ wordsOf (rowAt ws i) ++ drop (rowWords * (i + 1)) ws
 row-words ws i h =
-    let e : 8 * (i + 1) ≡ 8 * i + 8 = omega arith in
+    let e : rowWords * (i + 1) ≡ rowWords * i + 8 = omega arith in
     rw (
       e,
-      next-word ws (8 * i) (8 * i + 1) refl (omega arith),
-      next-word ws (8 * i + 1) (8 * i + 2) (omega arith) (omega arith),
-      next-word ws (8 * i + 2) (8 * i + 3) (omega arith) (omega arith),
-      next-word ws (8 * i + 3) (8 * i + 4) (omega arith) (omega arith),
-      next-word ws (8 * i + 4) (8 * i + 5) (omega arith) (omega arith),
-      next-word ws (8 * i + 5) (8 * i + 6) (omega arith) (omega arith),
-      next-word ws (8 * i + 6) (8 * i + 7) (omega arith) (omega arith),
-      next-word ws (8 * i + 7) (8 * i + 8) (omega arith) (omega arith),
+      next-word ws (rowWords * i) (rowWords * i + 1) refl (omega arith),
+      next-word ws (rowWords * i + 1) (rowWords * i + 2) (omega arith) (omega arith),
+      next-word ws (rowWords * i + 2) (rowWords * i + 3) (omega arith) (omega arith),
+      next-word ws (rowWords * i + 3) (rowWords * i + 4) (omega arith) (omega arith),
+      next-word ws (rowWords * i + 4) (rowWords * i + 5) (omega arith) (omega arith),
+      next-word ws (rowWords * i + 5) (rowWords * i + 6) (omega arith) (omega arith),
+      next-word ws (rowWords * i + 6) (rowWords * i + 7) (omega arith) (omega arith),
+      next-word ws (rowWords * i + 7) (rowWords * i + 8) (omega arith) (omega arith),
     )
 
 -- rows decoded and encoded again are the words
-encode-rows : (ws : List ℕ) (i k : ℕ) → 8 * (i + k) ≤ length ws → encodeAll (rowsFrom ws i k) ++ drop (8 * (i + k)) ws ≡ drop (8 * i) ws
+encode-rows : (ws : List ℕ) (i k : ℕ) → rowWords * (i + k) ≤ length ws → encodeAll (rowsFrom ws i k) ++ drop (rowWords * (i + k)) ws ≡ drop (rowWords * i) ws
 unfolding rowsFrom
 encode-rows ws i zero h = rw add-zero
 encode-rows ws i (suc k) h =
@@ -53,8 +53,8 @@ encode-rows ws i (suc k) h =
     (ap (λ (x : List ℕ). wordsOf (rowAt ws i) ++ x) (encode-rows ws (i + 1) k (omega arith)) ∙ sym (row-words ws i (omega arith)))
 
 -- words whose first m rows are `os` and then zeros, and which are untouched beyond
-pub stored-is : (ws vs : List ℕ) (n m : ℕ) (os zs : List Resting) → m ≡ max n (length os) → 8 * m ≤ length vs → rowsOf vs m ≡ os ++ zs
-    → encodeAll zs ≡ replicate (8 * (n - length os)) 0 → drop (8 * m) vs ≡ drop (8 * m) ws → vs ≡ stored ws n os
+pub stored-is : (ws vs : List ℕ) (n m : ℕ) (os zs : List Resting) → m ≡ max n (length os) → rowWords * m ≤ length vs → rowsOf vs m ≡ os ++ zs
+    → encodeAll zs ≡ replicate (rowWords * (n - length os)) 0 → drop (rowWords * m) vs ≡ drop (rowWords * m) ws → vs ≡ stored ws n os
 unfolding stored
 stored-is ws vs n m os zs e fits lines zeros rest =
     let w = encode-rows vs 0 m (simp zero-add (omega arith)) in
@@ -62,48 +62,48 @@ stored-is ws vs n m os zs e fits lines zeros rest =
     rw (← e) (sym v)
 
 -- the orders as they were leave the words as they were
-pub stored-same : (ws : List ℕ) (n : ℕ) → 8 * n ≤ length ws → ws ≡ stored ws n (rowsOf ws n)
+pub stored-same : (ws : List ℕ) (n : ℕ) → rowWords * n ≤ length ws → ws ≡ stored ws n (rowsOf ws n)
 stored-same ws n h =
     let l = length-rows ws 0 n in
     stored-is ws ws n n (rowsOf ws n) [] (omega arith) h (sym (append-nil (rowsOf ws n)))
-    (let z : 8 * (n - length (rowsOf ws n)) ≡ 0 = omega arith in rw z)
+    (let z : rowWords * (n - length (rowsOf ws n)) ≡ 0 = omega arith in rw z)
     refl
 
-pub stored-push : (ws : List ℕ) (n : ℕ) (o : Resting) → 8 * n + 8 ≤ length ws → setRow ws n o ≡ stored ws n (rowsOf ws n ++ (o ∷ []))
+pub stored-push : (ws : List ℕ) (n : ℕ) (o : Resting) → rowWords * n + 8 ≤ length ws → setRow ws n o ≡ stored ws n (rowsOf ws n ++ (o ∷ []))
 stored-push ws n o h =
     let l = length-rows ws 0 n in
     let k : length (rowsOf ws n ++ (o ∷ [])) ≡ n + 1 = simp length-append (omega arith) in
     stored-is ws (setRow ws n o) n (n + 1) (rowsOf ws n ++ (o ∷ [])) [] (omega arith) (rw (length-setRow ws n o h) (omega arith))
     (rows-push ws n o h ∙ sym (append-nil (rowsOf ws n ++ (o ∷ []))))
-    (let z : 8 * (n - length (rowsOf ws n ++ (o ∷ []))) ≡ 0 = omega arith in rw z)
+    (let z : rowWords * (n - length (rowsOf ws n ++ (o ∷ []))) ≡ 0 = omega arith in rw z)
     (rest-set ws (n + 1) n o (omega arith) (omega arith))
 
-pub stored-set : (ws : List ℕ) (n i : ℕ) (o : Resting) → 8 * n ≤ length ws → i < n → setRow ws i o ≡ stored ws n (set (rowsOf ws n) i o)
+pub stored-set : (ws : List ℕ) (n i : ℕ) (o : Resting) → rowWords * n ≤ length ws → i < n → setRow ws i o ≡ stored ws n (set (rowsOf ws n) i o)
 stored-set ws n i o h q =
     let k : length (set (rowsOf ws n) i o) ≡ n = simp length-set (length-rows ws 0 n) in
     stored-is ws (setRow ws i o) n n (set (rowsOf ws n) i o) [] (omega arith) (rw (length-setRow ws i o (omega arith)) (omega arith))
     (rows-set ws n i o h q ∙ sym (append-nil (set (rowsOf ws n) i o)))
-    (let z : 8 * (n - length (set (rowsOf ws n) i o)) ≡ 0 = omega arith in rw z)
+    (let z : rowWords * (n - length (set (rowsOf ws n) i o)) ≡ 0 = omega arith in rw z)
     (rest-set ws n i o h q)
 
-pub stored-remove : (ws vs : List ℕ) (n i : ℕ) → 8 * n ≤ length vs → i < n → rowsOf vs n ≡ removeAt (rowsOf ws n) i ++ (emptyRow ∷ [])
-    → drop (8 * n) vs ≡ drop (8 * n) ws → vs ≡ stored ws n (removeAt (rowsOf ws n) i)
+pub stored-remove : (ws vs : List ℕ) (n i : ℕ) → rowWords * n ≤ length vs → i < n → rowsOf vs n ≡ removeAt (rowsOf ws n) i ++ (emptyRow ∷ [])
+    → drop (rowWords * n) vs ≡ drop (rowWords * n) ws → vs ≡ stored ws n (removeAt (rowsOf ws n) i)
 stored-remove ws vs n i h q lines rest =
     let l = length-rows ws 0 n in
     let k : length (removeAt (rowsOf ws n) i) ≡ n - 1 = length-remove (rowsOf ws n) i (omega arith) ∙ ap (λ (x : ℕ). x - 1) l in
     stored-is ws vs n n (removeAt (rowsOf ws n) i) (emptyRow ∷ []) (omega arith) h lines
-    (let z : 8 * (n - length (removeAt (rowsOf ws n) i)) ≡ 8 = omega arith in rw z)
+    (let z : rowWords * (n - length (removeAt (rowsOf ws n) i)) ≡ 8 = omega arith in rw z)
     rest
 
 -- ---- laws of `stored`
 
-rows-at : (p : List ℕ) (i : ℕ) (os : List Resting) (rest : List ℕ) → length p ≡ 8 * i → rowsFrom (p ++ (encodeAll os ++ rest)) i (length os) ≡ os
+rows-at : (p : List ℕ) (i : ℕ) (os : List Resting) (rest : List ℕ) → length p ≡ rowWords * i → rowsFrom (p ++ (encodeAll os ++ rest)) i (length os) ≡ os
 unfolding rowsFrom
 rows-at p i [] rest e = refl
 rows-at p i (o ∷ os) rest e =
     ap₂ _∷_
     (row-same (p ++ (encodeAll (o ∷ os) ++ rest)) (encodeAll (o ∷ os) ++ rest) i 0
-    (λ f h. let z : 8 * 0 + f ≡ f = omega arith in rw (← e, z) (getD-append-add p (encodeAll (o ∷ os) ++ rest) f 0)))
+    (λ f h. let z : rowWords * 0 + f ≡ f = omega arith in rw (← e, z) (getD-append-add p (encodeAll (o ∷ os) ++ rest) f 0)))
     (rw (append-assoc p (wordsOf o) (encodeAll os ++ rest)) at (rows-at (p ++ wordsOf o) (i + 1) os rest (simp length-append (omega arith))))
 
 -- decode after store: the rows that were stored are the rows that are read
@@ -111,24 +111,15 @@ pub rows-stored : (ws : List ℕ) (n : ℕ) (os : List Resting) → rowsOf (stor
 unfolding stored
 rows-stored ws n os = rows-at [] 0 os _ refl
 
-pub length-encode : (os : List Resting) → length (encodeAll os) ≡ 8 * length os
+pub length-encode : (os : List Resting) → length (encodeAll os) ≡ rowWords * length os
 length-encode [] = refl
 length-encode (o ∷ os) = omega (arith, length-encode os)
 
 -- the length is kept
-pub length-stored : (ws : List ℕ) (n : ℕ) (os : List Resting) → 8 * n ≤ length ws → 8 * length os ≤ length ws → length (stored ws n os) ≡ length ws
+pub length-stored : (ws : List ℕ) (n : ℕ) (os : List Resting) → rowWords * n ≤ length ws → rowWords * length os ≤ length ws → length (stored ws n os) ≡ length ws
 unfolding stored
 length-stored ws n os h k =
-    simp (length-append, length-drop) (omega (arith, length-encode os, length-replicate {A = ℕ} (8 * (n - length os)) 0))
-
--- words past the last row, old and new, are untouched
-pub stored-past : (ws : List ℕ) (n : ℕ) (os : List Resting) → drop (8 * max n (length os)) (stored ws n os) ≡ drop (8 * max n (length os)) ws
-unfolding stored
-stored-past ws n os =
-    let z : length (encodeAll os ++ replicate {A = ℕ} (8 * (n - length os)) 0) ≡ 8 * max n (length os) =
-    simp length-append (omega (arith, length-encode os, length-replicate {A = ℕ} (8 * (n - length os)) 0)) in
-    rw (← (append-assoc (encodeAll os) (replicate (8 * (n - length os)) 0) (drop (8 * max n (length os)) ws)))
-    (drop-at (encodeAll os ++ replicate (8 * (n - length os)) 0) (drop (8 * max n (length os)) ws) (8 * max n (length os)) z)
+    simp (length-append, length-drop) (omega (arith, length-encode os, length-replicate {A = ℕ} (rowWords * (n - length os)) 0))
 
 -- ---- what a search tells
 

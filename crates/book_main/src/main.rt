@@ -46,10 +46,10 @@ fn order(id: u64, price: u64, remaining: u64, kind: u64, entered_at: u64) -> Res
 
 // Inserts an order, and answers the number of rows.
 fn add(rows: &mut [u64], n: usize, o: Resting) -> usize {
-    if 4096 <= n {
+    if book::MOST_ROWS <= n {
         return n;
     }
-    if rows.len() < 8 * n + 8 {
+    if rows.len() < book::ROW_WORDS * n + book::ROW_WORDS {
         return n;
     }
     book::insert(rows, n, o);
@@ -57,10 +57,10 @@ fn add(rows: &mut [u64], n: usize, o: Resting) -> usize {
 }
 
 fn reduce(rows: &mut [u64], n: usize, i: usize, remaining: u64, mark: Decrease) {
-    if 4096 < n {
+    if book::MOST_ROWS < n {
         return;
     }
-    if rows.len() < 8 * n {
+    if rows.len() < book::ROW_WORDS * n {
         return;
     }
     if i < n {
@@ -70,10 +70,10 @@ fn reduce(rows: &mut [u64], n: usize, i: usize, remaining: u64, mark: Decrease) 
 
 // Removes a row, and answers the number of rows.
 fn remove(rows: &mut [u64], n: usize, i: usize) -> usize {
-    if 4096 < n {
+    if book::MOST_ROWS < n {
         return n;
     }
-    if rows.len() < 8 * n {
+    if rows.len() < book::ROW_WORDS * n {
         return n;
     }
     if n <= i {
@@ -85,7 +85,7 @@ fn remove(rows: &mut [u64], n: usize, i: usize) -> usize {
 
 // The place of an id, or `none`.
 fn find(rows: &[u64], n: usize, id: u64) {
-    if book_valid::rows_broken(rows, n, 4096) {
+    if book_valid::rows_broken(rows, n, book::MOST_ROWS) {
         return;
     }
     text(b"find");
@@ -106,7 +106,7 @@ fn price(best: BestPrice) {
 
 // Best bid and ask; the number of levels, of buys and of sells.
 fn tops(rows: &[u64], n: usize) {
-    if book_valid::rows_broken(rows, n, 4096) {
+    if book_valid::rows_broken(rows, n, book::MOST_ROWS) {
         return;
     }
     text(b"best");
@@ -129,7 +129,7 @@ fn yes(b: bool) {
 
 // Whether there is a level at a side and price, and whether an order there would cross.
 fn meets(rows: &[u64], n: usize, side: L3Side, price: u64) {
-    if book_valid::rows_broken(rows, n, 4096) {
+    if book_valid::rows_broken(rows, n, book::MOST_ROWS) {
         return;
     }
     text(b"level");
@@ -140,7 +140,7 @@ fn meets(rows: &[u64], n: usize, side: L3Side, price: u64) {
 }
 
 fn level(rows: &[u64], n: usize, side: L3Side, price: u64) {
-    if book_valid::rows_broken(rows, n, 4096) {
+    if book_valid::rows_broken(rows, n, book::MOST_ROWS) {
         return;
     }
     let v = book_levels::level_at(rows, n, side, price);
@@ -154,7 +154,7 @@ fn level(rows: &[u64], n: usize, side: L3Side, price: u64) {
 
 // Walks a side, and answers how many levels were written to `out`.
 fn walk(rows: &[u64], n: usize, side: L3Side, marks: &mut [u64], out: &mut [u64]) -> usize {
-    if book_valid::rows_broken(rows, n, 4096) {
+    if book_valid::rows_broken(rows, n, book::MOST_ROWS) {
         return 0;
     }
     let count = book_keys::side_level_count(rows, n, side);

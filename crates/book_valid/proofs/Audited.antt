@@ -9,7 +9,7 @@ use lib.ListN.{length}
 use borrow.Author.Tests.{ne-eqb, le-ltb}
 use Rattle.laws.proofs.Bools.{or-no, or-both}
 use Rattle.book.specs.declared.Resting.{Resting}
-use Rattle.book.specs.Rows.{Lent, mostRows, rowsOf}
+use Rattle.book.specs.Rows.{Lent, mostRows, rowWords, rowsOf}
 use Rattle.book.specs.Broken.{rowBroken, someRowBroken, WellFormed}
 use Rattle.book.proofs.Kept.{sound-row}
 use Rattle.book_valid.specs.declared.AuditAnswer.the-variants.{Ok}
@@ -26,4 +26,4 @@ pub rows-ok : (mo ml : ℕ) (os : List Resting) → WellFormed mo ml os → audi
 rows-ok mo ml os w = rw (none-empty os (w .sound), w .single, w .apart)
 
 pub audit-ok : (mo ml : ℕ) (ws : List ℕ) (n : ℕ) → Lent ws n → WellFormed mo ml (rowsOf ws n) → auditOf ws n ≡ Ok
-audit-ok mo ml ws n l w = rw (le-ltb mostRows n (l .few), le-ltb (length ws) (8 * n) (l .room)) (rows-ok mo ml (rowsOf ws n) w)
+audit-ok mo ml ws n l w = rw (le-ltb mostRows n (l .few), le-ltb (length ws) (rowWords * n) (l .room)) (rows-ok mo ml (rowsOf ws n) w)

@@ -16,7 +16,7 @@ use Rattle.reconstructor_answers.specs.Numbers.{kindNumber, kindDetail}
 use Rattle.reconstructor_state.specs.declared.Status.{Status}
 use Rattle.reconstructor_state.specs.declared.Status.the-variants.{Empty, Valid, Invalidated}
 use Rattle.reconstructor_state.specs.declared.BookReconstructor.{BookReconstructor}
-use Rattle.host_words.specs.Block.{statusWords, restored}
+use Rattle.host_words.specs.Block.{stateWords, statusWords, restored}
 use Rattle.host_words.proofs.RoundTrip.{part}
 use Rattle.host_boundary.specs.Boundary.{noBit, noReason, noBook}
 
@@ -52,7 +52,7 @@ status-written w Empty h = rw h
 status-written w (Valid last) h = rw h
 status-written w (Invalidated i) h = rw (h, reason-written (i .kind))
 
-pub book-kept : (st : List ℕ) (sets : Bool) (b : BookReconstructor) → 27 ≤ length st → noBook st ≡ false → noBook (restored st sets b) ≡ false
+pub book-kept : (st : List ℕ) (sets : Bool) (b : BookReconstructor) → stateWords ≤ length st → noBook st ≡ false → noBook (restored st sets b) ≡ false
 unfolding noBook restored
 book-kept st true b long h =
     rw (part st 0 6 (omega arith)) (status-written (getD st 2 0) (b .status) (or-no (noBit (getD st 2 0)) _ h .0))

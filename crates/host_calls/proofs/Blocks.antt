@@ -37,7 +37,7 @@ use Rattle.reconstructor_bootstrap.specs.Snapshot.{pieceAnswer}
 use Rattle.reconstructor_bootstrap.specs.Bootstrap as boot
 use Rattle.host_records.specs.Records.{recordsIn, recordsOf, relaid}
 use Rattle.reconstructor_answers.specs.Numbers.{answerNumber}
-use Rattle.host_words.specs.Block.{bookOf, messageOf, restored, setsStatus}
+use Rattle.host_words.specs.Block.{stateWords, bookOf, messageOf, restored, setsStatus}
 use Rattle.host_boundary.specs.Boundary.{noMessage, noBook, unlessTurned}
 use Rattle.host_boundary.proofs.Passed.{Passed, passes, by-boundary}
 use Rattle.host_calls.specs.Calls.{Call, called, afterApply, afterBootstrap, applyCall, bootstrapCall}
@@ -61,7 +61,7 @@ counted k st = cond (eqb k 10) (raised st 25) (cond (eqb k 17) (raised st 24) st
 abbrev pub refusalLeaves : ℕ → List ℕ → List ℕ → List ℕ → Call
 refusalLeaves k st ws sg = called k (counted k st) ws sg
 
-refused-words : (st : List ℕ) (a : ApplyAnswer) → 27 ≤ length st → acts (answerNumber a) ≡ false
+refused-words : (st : List ℕ) (a : ApplyAnswer) → stateWords ≤ length st → acts (answerNumber a) ≡ false
     → restored st (setsStatus a) (refusedBook (bookOf st) a) ≡ counted (answerNumber a) st
 refused-words st (answers.Applied BookChanged) long h = absurd-bool h
 refused-words st (answers.Applied NoBookEffect) long h = absurd-bool h
@@ -84,7 +84,7 @@ decided-acts b mem last m none = go (answerBy (eventDeed (b .rules) (lineIn mem 
     go BookChanged = refl
     go NoBookEffect = refl
 
-decided-state : (st : List ℕ) (mem : Memory) (last : ℕ) (m : L3Message) (o : Option InvalidationKind) → 27 ≤ length st
+decided-state : (st : List ℕ) (mem : Memory) (last : ℕ) (m : L3Message) (o : Option InvalidationKind) → stateWords ≤ length st
     → bookOf (restored st (setsStatus (decided (bookOf st) mem last m o .answer)) (decided (bookOf st) mem last m o .book)) ≡ decided (bookOf st) mem last m o .book
 unfolding decided invalidatedReply accepted acceptedReply
 decided-state st mem last m (some k) long = block-back st true _ _ _ _ long (λ e. absurd-bool e)
@@ -95,7 +95,7 @@ pub relaid-last : (sg : List ℕ) (n : ℕ) → relaid sg (relast (recordsOf sg)
 relaid-last sg n = ap (relaid sg) (relast-same (recordsOf sg) n) ∙ relaid-same sg
 
 -- a message by what turns it away before its turn
-module _ (st ws sg : List ℕ) (m : L3Message) (long : 27 ≤ length st) where
+module _ (st ws sg : List ℕ) (m : L3Message) (long : stateWords ≤ length st) where
   abbrev last : Segment
   last = lastSegment (recordsOf sg) (bookOf st .segments)
 
@@ -156,7 +156,7 @@ module _ (st ws sg m : List ℕ) where
 abbrev pub snapshotLeaves : ℕ → List ℕ → List ℕ → List ℕ → Call
 snapshotLeaves k st ws sg = called k (cond (ltb k 10 || ltb 14 k) st (raised st 26)) ws sg
 
-rejected-words : (st : List ℕ) (x : SnapshotAnswer) → 27 ≤ length st → eqb (snapshotNumber x) 0 ≡ false
+rejected-words : (st : List ℕ) (x : SnapshotAnswer) → stateWords ≤ length st → eqb (snapshotNumber x) 0 ≡ false
     → restored st (eqb (snapshotNumber x) 0) (boot.refusedBook x (bookOf st)) ≡ cond (ltb (snapshotNumber x) 10 || ltb 14 (snapshotNumber x)) st (raised st 26)
 rejected-words st Bootstrapped long h = absurd-bool h
 rejected-words st (Unusable LimitAboveCeiling) long h = block-same st long
@@ -194,10 +194,10 @@ module _ (st ws sg bytes : List ℕ) where
       ∙ ap (relaid sg) (set-out (recordsOf sg) many noSegment (omega arith))
       ∙ relaid-same sg
 
-  rejected-leaves : (x : SnapshotAnswer) → 27 ≤ length st → eqb (snapshotNumber x) 0 ≡ false → rejected x ≡ snapshotLeaves (snapshotNumber x) st ws sg
+  rejected-leaves : (x : SnapshotAnswer) → stateWords ≤ length st → eqb (snapshotNumber x) 0 ≡ false → rejected x ≡ snapshotLeaves (snapshotNumber x) st ws sg
   rejected-leaves x long h = ap₂ (λ (l t : List ℕ). called (snapshotNumber x) l ws t) (rejected-words st x long h) rejected-list
 
-  left-refused : (o : Option SnapshotAnswer) (r : ReadSnapshot) → 27 ≤ length st → eqb (written (found o r) .number) 0 ≡ false
+  left-refused : (o : Option SnapshotAnswer) (r : ReadSnapshot) → stateWords ≤ length st → eqb (written (found o r) .number) 0 ≡ false
       → written (found o r) ≡ snapshotLeaves (written (found o r) .number) st ws sg
   left-refused (some a) r long h = rejected-leaves a long h
   left-refused none (Refused p) long h = rejected-leaves (pieceAnswer p) long h
@@ -217,7 +217,7 @@ module _ (st ws sg bytes : List ℕ) where
       (λ h. refl) (λ h. refl) (λ h. refl) (λ h. refl) (λ h. refl)
       (λ p. left-refused refusal (readSnapshot bytes) (p .whole))
 
-  module _ (long : 27 ≤ length st) where
+  module _ (long : stateWords ≤ length st) where
     rejected-state : (x : SnapshotAnswer) → bookOf (rejected x .state) ≡ boot.refusedBook x (bookOf st)
     rejected-state x =
         let b = bookOf st in

@@ -29,7 +29,7 @@ use Rattle.reconstructor_handshake.specs.declared.StepAnswer.the-variants.{Step
 use Rattle.reconstructor_handshake.specs.Step.{otherSegment, drops, with, after, decided, dropped, stepRefusal, unlessRefused, StepWorked, putBack, steppedTo, stepped}
 use Rattle.host_records.specs.Records.{recordsOf, relaid}
 use Rattle.reconstructor_answers.specs.Numbers.{answerNumber}
-use Rattle.host_words.specs.Block.{bookOf, messageOf, restored}
+use Rattle.host_words.specs.Block.{stateWords, bookOf, messageOf, restored}
 use Rattle.host_boundary.specs.Boundary.{noMessage, noHandshake, unlessTurned}
 use Rattle.host_boundary.proofs.Passed.{Passed, passes, by-boundary}
 use Rattle.host_handshake.specs.HandshakeWords.{handshakeOf, handshakeLeft, stepSets}
@@ -78,7 +78,7 @@ not-dropped (answers.Invalidated i) = refl
 not-dropped (answers.AwaitingSnapshot i) = refl
 
 -- a step on words that are long enough, by what refuses it and whether it drops
-module _ (top : ℕ) (st ws sg hs : List ℕ) (m : L3Message) (long : 27 ≤ length st) (full : 4 ≤ length hs) (bit : noHandshake hs ≡ false) where
+module _ (top : ℕ) (st ws sg hs : List ℕ) (m : L3Message) (long : stateWords ≤ length st) (full : 4 ≤ length hs) (bit : noHandshake hs ≡ false) where
   abbrev last : Segment
   last = lastSegment (recordsOf sg) (bookOf st .segments)
 

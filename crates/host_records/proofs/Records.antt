@@ -13,7 +13,7 @@ use Rattle.book.proofs.Stored.{rows-stored, length-stored, length-encode, store
 use Rattle.reconstructor_segments.specs.declared.Segment.{Segment}
 use Rattle.reconstructor_segments.specs.Segments.{noSegment, segmentAt, relast}
 use Rattle.reconstructor_segments.proofs.Last.{relast-at}
-use Rattle.host_records.specs.Records.{recordAt, recordsFrom, recordsOf, encodeRecord, encodeRecords, setRecord, relaid}
+use Rattle.host_records.specs.Records.{recordWords, recordAt, recordsFrom, recordsOf, encodeRecord, encodeRecords, setRecord, relaid}
 
 -- the row of the same words, and back
 abbrev row : Segment → Resting
@@ -68,7 +68,7 @@ relaid-stored : (ws : List ℕ) (gs : List Segment) → length gs ≡ length ws 
 unfolding relaid stored
 relaid-stored ws gs e =
     let l : length (map row gs) ≡ length ws / 8 = length-map gs row ∙ e in
-    let z : 8 * (length ws / 8 - length (map row gs)) ≡ 0 = omega arith in
+    let z : recordWords * (length ws / 8 - length (map row gs)) ≡ 0 = omega arith in
     let x : max (length ws / 8) (length (map row gs)) ≡ length gs = omega arith in
     rw (z, x, encode-rows gs)
 
@@ -101,9 +101,9 @@ records-relaid ws gs e =
 pub relaid-twice : (ws : List ℕ) (gs hs : List Segment) → length hs ≡ length gs → relaid (relaid ws gs) hs ≡ relaid ws hs
 unfolding relaid
 relaid-twice ws gs hs e =
-    let l : length (encodeRecords gs) ≡ 8 * length hs = ap length (encode-rows gs) ∙ length-encode (map row gs) ∙ ap (λ (n : ℕ). 8 * n) (length-map gs row ∙ sym e) in
-    let d : 8 * length gs ≡ 8 * length hs = ap (λ (n : ℕ). 8 * n) (sym e) in
-    ap (λ (x : List ℕ). encodeRecords hs ++ x) (drop-at (encodeRecords gs) (drop (8 * length gs) ws) (8 * length hs) l ∙ ap (λ (n : ℕ). drop n ws) d)
+    let l : length (encodeRecords gs) ≡ recordWords * length hs = ap length (encode-rows gs) ∙ length-encode (map row gs) ∙ ap (λ (n : ℕ). recordWords * n) (length-map gs row ∙ sym e) in
+    let d : recordWords * length gs ≡ recordWords * length hs = ap (λ (n : ℕ). recordWords * n) (sym e) in
+    ap (λ (x : List ℕ). encodeRecords hs ++ x) (drop-at (encodeRecords gs) (drop (recordWords * length gs) ws) (recordWords * length hs) l ∙ ap (λ (n : ℕ). drop n ws) d)
 
 -- ---- one record
 

@@ -31,7 +31,7 @@ use Rattle.reconstructor_checks.specs.StateChecks.{bookRefusal, checked, Usable
 use Rattle.host_records.specs.Records.{recordsIn, recordsOf, relaid}
 use Rattle.host_records.proofs.Records.{length-records}
 use Rattle.reconstructor_answers.specs.Numbers.{answerNumber}
-use Rattle.host_words.specs.Block.{bookOf, messageOf, restored, setsStatus}
+use Rattle.host_words.specs.Block.{stateWords, bookOf, messageOf, restored, setsStatus}
 use Rattle.host_boundary.specs.Boundary.{noMessage, noBook, boundary}
 use Rattle.host_calls.specs.Calls.{Call, called, afterApply, applyCall}
 use Rattle.host_replay.specs.Replay.{Run, then, run, ReplayCall, replayCalled, countOf, afterRun, replayCall, Ready, Runs}
@@ -48,7 +48,7 @@ module _ (st ws sg ps : List ℕ) (bd : Bounds) (b : BookReconstructor) (e : b �
   pub loaded : Runs st ws sg ps bd → Trusted mostRows b (memory ws) × Indexed ps bd (ordersOf (memory ws) (b .rows))
   loaded r = rw e (trusted-under ceiling (bookOf st) (memory ws) (recordsIn sg) (omega arith) (r .usable), r .index)
 
-  pub runs-start : 27 ≤ length st → noBook st ≡ false → Usable ceiling (bookOf st) (memory ws) (recordsIn sg) → length ps ≤ 65536 → all (rowMarked ps) (ordersOf (memory ws) (b .rows)) ≡ true
+  pub runs-start : stateWords ≤ length st → noBook st ≡ false → Usable ceiling (bookOf st) (memory ws) (recordsIn sg) → length ps ≤ 65536 → all (rowMarked ps) (ordersOf (memory ws) (b .rows)) ≡ true
       → all (rowBounded bd) (ordersOf (memory ws) (b .rows)) ≡ true → Runs st ws sg ps bd
   runs-start whole is u few marks within =
       record {
@@ -67,7 +67,7 @@ foreseen ps bd nd os i h = record { few = i .few; marks = i .marks; within = h; 
 -- what its call was seen to give leaves the words of `applyCall`, and the loop goes on
 module _ (st ws sg m ps : List ℕ) (n : ℕ) (bd : Bounds) (w : Work) (ut vs tg qs : List ℕ) (g : Segment) (at : g ≡ lastSegment (recordsOf sg) (bookOf st .segments))
     (e : worked w (memory vs) ≡ trustedTo (bookOf st) (memory ws) g (messageOf m)) (eg : tg ≡ relaid sg (relast (recordsOf sg) (bookOf st .segments) (w .segment)))
-    (eu : ut ≡ restored st (setsStatus (w .answer)) (w .book)) (en : qs ≡ noted ps n (messageOf m .event)) (whole : 27 ≤ length st) (is : noBook st ≡ false) (u : Usable ceiling (bookOf st) (memory ws) (recordsIn sg)) where
+    (eu : ut ≡ restored st (setsStatus (w .answer)) (w .book)) (en : qs ≡ noted ps n (messageOf m .event)) (whole : stateWords ≤ length st) (is : noBook st ≡ false) (u : Usable ceiling (bookOf st) (memory ws) (recordsIn sg)) where
   abbrev after : Parts
   after = applied ceiling (bookOf st) (memory ws) (recordsOf sg) (messageOf m)
 
@@ -184,7 +184,7 @@ module _ (st₀ ws₀ sg₀ ms out₀ ps₀ st ws sg out ps : List ℕ) (b : Bou
 
 -- ---- a message whose words are those of none
 
-pub no-apply : (st ws sg m : List ℕ) → 27 ≤ length st → 21 ≤ length m → noMessage m ≡ true → called 4 st ws sg ≡ applyCall st ws sg m
+pub no-apply : (st ws sg m : List ℕ) → stateWords ≤ length st → 21 ≤ length m → noMessage m ≡ true → called 4 st ws sg ≡ applyCall st ws sg m
 unfolding applyCall
 no-apply st ws sg m whole full none = rw (le-ltb (length m) 21 full, none, wrong-number st (extentOf (memory ws)) (less st sg) whole)
 

@@ -13,9 +13,3 @@ pub lent-two : (xs : List ℕ) (n : ℕ) (ys : List ℕ) (m : ℕ) → (ltb (len
 lent-two xs n ys m h =
     let both = or-no (ltb (length xs) n) (ltb (length ys) m) h in
     (ltb-false (length xs) n (both .0), ltb-false (length ys) m (both .1))
-
-pub lent-three : (xs : List ℕ) (n : ℕ) (ys : List ℕ) (m : ℕ) (zs : List ℕ) (l : ℕ) → (ltb (length xs) n || (ltb (length ys) m || ltb (length zs) l)) ≡ false
-    → (n ≤ length xs) × ((m ≤ length ys) × (l ≤ length zs))
-lent-three xs n ys m zs l h =
-    let both = or-no (ltb (length xs) n) (ltb (length ys) m || ltb (length zs) l) h in
-    (ltb-false (length xs) n (both .0), lent-two ys m zs l (both .1))

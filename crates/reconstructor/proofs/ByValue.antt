@@ -1,13 +1,13 @@
 -- What the work of a message comes to, by cases: what its core leaves, with what that makes of the last segment's record.
 -- Assumes nothing.
 use Prim.Native.Nat.{ℕ}
-use mathlib.Core.Path.{_≡_, refl, ap, _∙_}
+use mathlib.Core.Path.{_≡_, ap}
 use mathlib.Core.List.{List}
 use lib.ListN.{length}
 use Rattle.message.specs.declared.L3Message.{L3Message}
 use Rattle.book.specs.Memory.{Memory}
 use Rattle.reconstructor_segments.specs.declared.Segment.{Segment}
-use Rattle.reconstructor_segments.specs.Segments.{lastSegment, relast}
+use Rattle.reconstructor_segments.specs.Segments.{lastSegment}
 use Rattle.reconstructor_state.specs.declared.BookReconstructor.{BookReconstructor}
 use Rattle.reconstructor_checks.specs.StateChecks.{Usable}
 use Rattle.reconstructor.specs.declared.Reply.{Reply}
@@ -27,11 +27,6 @@ unfolding appliedTo
 applied-trusted-to top b mem lent g m u = ap (answered b mem g m) (gate-trusted top b mem lent g m u)
 
 module _ (b : BookReconstructor) (mem : Memory) (sg : List Segment) (m : L3Message) (top : ℕ) where
-  -- before any snapshot no record is written
-  pub applied-none : b .segments ≡ 0 → applied top b mem sg m .segments ≡ sg
-  unfolding applied
-  applied-none e = ap (λ (n : ℕ). relast sg n (appliedTo top b mem (length sg) (lastSegment sg (b .segments)) m .segment)) e
-
   pub applied-trusted : Usable top b mem (length sg) → applied top b mem sg m ≡ putBack sg (b .segments) (trustedTo b mem (lastSegment sg (b .segments)) m)
   unfolding applied
   applied-trusted u = ap (putBack sg (b .segments)) (applied-trusted-to top b mem (length sg) (lastSegment sg (b .segments)) m u)

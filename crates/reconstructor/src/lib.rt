@@ -186,7 +186,7 @@ fn take_turn(
     }
     let rules = book.rules;
     let event = message.event;
-    match reconstructor_plan::plan_event(rules, rows, book.rows, places, bounds, seq, event) {
+    match reconstructor_plan_event::plan_event(rules, rows, book.rows, places, bounds, seq, event) {
         Planned::Plan(plan) => Turn::Plan(plan),
         Planned::Refused(d) => Turn::Broken(InvalidationKind::Discrepancy(d)),
     }

@@ -1,17 +1,16 @@
 -- What a host may rely on: an accepted snapshot leaves a usable, well-formed book; a refused one leaves the book as it was.
 -- Assumes nothing.
 use Prim.Native.Nat.{ℕ, zero, suc, _+_, _*_, _<_}
-use mathlib.Core.Path.{_≡_, refl, sym, ap, subst, _∙_}
+use mathlib.Core.Path.{_≡_, refl, sym, ap, _∙_}
 use mathlib.Core.Bool.{Bool, true, false, cond, _&&_}
-use mathlib.Core.List.{List, [], map}
+use mathlib.Core.List.{List, map}
 use mathlib.Core.Option.{Option, none, some}
 use native.Mathlib.Omega.{arith}
 use borrow.Author.Tests.{eqb-false, ne-eqb, le-ltb}
-use lib.Dec.{eqb, lit<}
+use lib.Dec.{eqb}
 use lib.ListN.{length, set, length-map, length-set}
 use lib.Seq.{set-out}
 use Rattle.message.specs.declared.L3Snapshot.{L3Snapshot}
-use Rattle.piece.specs.declared.PieceError.{PieceError}
 use Rattle.piece.specs.declared.ReadSnapshot.{ReadSnapshot}
 use Rattle.piece.specs.declared.ReadSnapshot.the-variants.{Snapshot, Refused}
 use Rattle.message.specs.Amounts.{natOf}
@@ -19,26 +18,18 @@ use Rattle.message.specs.Values.{amountLimit, inRange, orderInRange, ordersInRa
 use Rattle.piece.specs.Piece.{bidsAt, asksAt, snapshotShaped, productIdAt, wordAt, orderAt, ordersFrom, snapshotOf, readSnapshot}
 use Rattle.book.specs.declared.Resting.{Resting}
 use Rattle.book.specs.Line.{Entry}
-use Rattle.book.specs.Rows.{rowsOf, stored, snapshotRow}
-use Rattle.book.specs.Memory.{Memory, memory, ordersOf}
-use Rattle.book.specs.Broken.{WellFormed, someOutOfRange, SnapshotFits}
-use Rattle.reconstructor_state.specs.declared.Status.{Status}
-use Rattle.reconstructor_state.specs.declared.Status.the-variants.{Empty, Valid, Invalidated}
-use Rattle.reconstructor_answers.specs.declared.StateError.{StateError}
-use Rattle.reconstructor_answers.specs.declared.StateError.the-variants.{LimitAboveCeiling, LentTooShort, MalformedBook}
-use Rattle.reconstructor_state.specs.Checks.{check, first}
+use Rattle.book.specs.Rows.{rowWords, rowsOf, stored, snapshotRow}
+use Rattle.book.specs.Memory.{Memory, memory}
+use Rattle.book.specs.Broken.{someOutOfRange, SnapshotFits}
 use Rattle.reconstructor_state.specs.declared.BookReconstructor.{BookReconstructor}
 use Rattle.reconstructor_segments.specs.declared.Segment.{Segment}
 use Rattle.reconstructor_segments.specs.Segments.{noSegment, lastSegment, relast, started}
 use Rattle.reconstructor_segments.proofs.Last.{length-relast, relast-same}
 use Rattle.reconstructor_state.specs.State.{viewWith, lengthsWith, withCounts}
 use Rattle.reconstructor_checks.specs.StateChecks.{broken, bookRefusal, Usable}
-use Rattle.reconstructor_bootstrap.specs.declared.SnapshotError.{SnapshotError}
-use Rattle.reconstructor_bootstrap.specs.declared.SnapshotError.the-variants.{WrongProduct, DuplicateId, InvalidValue, Crossed, CapacityExceeded}
 use Rattle.reconstructor_bootstrap.specs.declared.SnapshotAnswer.{SnapshotAnswer}
 use Rattle.reconstructor_bootstrap.specs.declared.SnapshotAnswer.the-variants.{Bootstrapped, Unusable, NotAPiece, AmountOutOfRange, ListFull, Rejected}
-use Rattle.reconstructor_bootstrap.specs.Numbers.{snapshotNumber}
-use Rattle.reconstructor_bootstrap.specs.Snapshot.{pieceAnswer, snapshotLine, notPositive, lineRefusal, snapshotRefusal, acceptRefusal, pieceRefusal, bootRefusal}
+use Rattle.reconstructor_bootstrap.specs.Snapshot.{snapshotLine, notPositive, lineRefusal, snapshotRefusal, acceptRefusal, pieceRefusal, bootRefusal}
 use Rattle.reconstructor_bootstrap.specs.Bootstrap.{Parts, refusedBook, bootedBook, closed, accepted, unlessRefused, taken, putBack, bootstrappedTo, bootstrapped}
 use Rattle.reconstructor_bootstrap.specs.Places.{entryAt, entriesFrom}
 use Rattle.laws.proofs.Bools.{or-no, or-both, and-yes}
@@ -158,17 +149,7 @@ module _ (top : ℕ) (b : BookReconstructor) (mem : Memory) (sg : List Segment) 
             fits = fits bytes s b q (vetted .0);
           }
 
-  -- the rows that it leaves are well formed
-  pub accepted-formed : refusalOf top b mem sg bytes ≡ none
-      → WellFormed (b .rules .«max_orders») (b .rules .«max_levels») (ordersOf (bootstrapped top b mem sg bytes .memory) (bootstrapped top b mem sg bytes .book .rows))
-  accepted-formed h =
-      let a = is-accepted h in
-      let l = snapshotLine (a .snapshot) bytes in
-      let t = a .snapshot .sequence in
-      let r : rowsOf (stored (mem .rows) (b .rows) (map (snapshotRow t) l)) (length l) ≡ map (snapshotRow t) l = rw (length-map l (snapshotRow t)) at (rows-stored (mem .rows) (b .rows) (map (snapshotRow t) l)) in
-      rw (a .is, r) (snapshot-kept (b .rules .«max_orders») (b .rules .«max_levels») t l (a .fits))
-
-  -- and the state, with what it is lent, passes 1, 2 and 3 at the next call
+  -- the state, with what it is lent, passes 1, 2 and 3 at the next call
   pub accepted-usable : refusalOf top b mem sg bytes ≡ none
       → Usable top (bootstrapped top b mem sg bytes .book) (bootstrapped top b mem sg bytes .memory) (length (bootstrapped top b mem sg bytes .segments))
   accepted-usable h =
@@ -185,7 +166,7 @@ module _ (top : ℕ) (b : BookReconstructor) (mem : Memory) (sg : List Segment) 
       rw (a .is)
       (record {
         within = a .before .within;
-        lent = or-both _ _ (le-ltb (length (stored (mem .rows) (b .rows) os)) (8 * b .rules .«max_orders») (omega (arith, f, m)))
+        lent = or-both _ _ (le-ltb (length (stored (mem .rows) (b .rows) os)) (rowWords * b .rules .«max_orders») (omega (arith, f, m)))
             (le-ltb (length (acceptedParts b mem sg t l .segments)) (b .segments + 1) (omega (arith, d, a .room)));
         sound = kept (bootedBook b t (length l)) (memory (stored (mem .rows) (b .rows) os)) os r n
             (snapshot-kept (b .rules .«max_orders») (b .rules .«max_levels») t l (a .fits))
@@ -242,55 +223,3 @@ module _ (top : ℕ) (b : BookReconstructor) (mem : Memory) (sg : List Segment) 
       → Usable top (bootstrapped top b mem sg bytes .book) (bootstrapped top b mem sg bytes .memory) (length (bootstrapped top b mem sg bytes .segments))
   unfolding broken
   refused-usable u = rw (refused-is, counts-alone x b) (record { within = u .within; lent = u .lent; sound = u .sound })
-
--- ---- number 0 is acceptance
-
-module _ {B : Type 0} (P : B → Type 0) where
-  check-all : (t : Bool) (d : B) (k : Option B) (x : B) → P d → (k ≡ some x → P x) → check t d k ≡ some x → P x
-  unfolding check
-  check-all true d k x p q h = let e : d ≡ x = cc in subst P e p
-  check-all false d k x p q h = q h
-
-  first-all : {A : Type 0} (o : Option A) (f : A → B) (k : Option B) (x : B) → ((y : A) → P (f y)) → (k ≡ some x → P x) → first o f k ≡ some x → P x
-  unfolding first
-  first-all (some y) f k x p q h = let e : f y ≡ x = cc in subst P e (p y)
-  first-all none f k x p q h = q h
-
-abbrev Turned : SnapshotAnswer → Type 0
-Turned x = 0 < snapshotNumber x
-
-state-turned : (e : StateError) → Turned (Unusable e)
-state-turned LimitAboveCeiling = lit< tt
-state-turned LentTooShort = lit< tt
-state-turned MalformedBook = lit< tt
-
-snapshot-turned : (e : SnapshotError) → Turned (Rejected e)
-snapshot-turned WrongProduct = lit< tt
-snapshot-turned DuplicateId = lit< tt
-snapshot-turned InvalidValue = lit< tt
-snapshot-turned Crossed = lit< tt
-snapshot-turned CapacityExceeded = lit< tt
-
-piece-turned : (e : PieceError) → Turned (pieceAnswer e)
-piece-turned pieces.NotAPiece = lit< tt
-piece-turned pieces.OutOfRange = lit< tt
-
-no-more : (x : SnapshotAnswer) → _≡_ {A = Option SnapshotAnswer} none (some x) → Turned x
-no-more x q = let z : _≡_ {A = ℕ} 0 1 = cc in absurd (omega arith)
-
-refusal-turned : (top : ℕ) (b : BookReconstructor) (mem : Memory) (sg : List Segment) (bytes : List ℕ) (x : SnapshotAnswer) → refusalOf top b mem sg bytes ≡ some x → Turned x
-unfolding bootRefusal acceptRefusal
-refusal-turned top b mem sg bytes x h = first-all Turned _ Unusable _ x state-turned (go (readSnapshot bytes)) h
-  where
-    go : (r : ReadSnapshot) → pieceRefusal (b .«product_id») (b .rules) (lengthsWith mem (length sg)) (viewWith b mem (lastSegment sg (b .segments))) r bytes ≡ some x → Turned x
-    go (Refused e) q = let d : pieceAnswer e ≡ x = cc in subst Turned d (piece-turned e)
-    go (Snapshot s) q = check-all Turned _ ListFull _ x (lit< tt) (first-all Turned _ Rejected none x snapshot-turned (no-more x)) q
-
-pub zero-accepts : (top : ℕ) (b : BookReconstructor) (mem : Memory) (sg : List Segment) (bytes : List ℕ) → snapshotNumber (bootstrapped top b mem sg bytes .answer) ≡ 0 → refusalOf top b mem sg bytes ≡ none
-zero-accepts top b mem sg bytes h = go (refusalOf top b mem sg bytes) refl
-  where
-    go : (o : Option SnapshotAnswer) → refusalOf top b mem sg bytes ≡ o → o ≡ none
-    go none q = refl
-    go (some x) q =
-        let e = ap (λ (p : Parts). snapshotNumber (p .answer)) (refused-is top b mem sg bytes x q) in
-        absurd (omega (arith, e, h, refusal-turned top b mem sg bytes x q))

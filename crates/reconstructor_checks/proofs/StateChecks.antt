@@ -10,7 +10,7 @@ use borrow.Author.Tests.{ltb-false, eqb-false, le-ltb}
 use lib.Dec.{ltb}
 use lib.ListN.{length}
 use Rattle.book.specs.declared.Resting.{Resting}
-use Rattle.book.specs.Rows.{mostRows, rowsOf, Lent}
+use Rattle.book.specs.Rows.{rowWords, mostRows, rowsOf, Lent}
 use Rattle.book.specs.Memory.{Memory, extentOf, ordersOf}
 use Rattle.book.specs.Broken.{rowsBroken, wordsBroken, WellFormed}
 use Rattle.reconstructor_state.specs.declared.VenueRules.{VenueRules}
@@ -54,22 +54,22 @@ orders-within top v h = ltb-false top (v .«max_orders») (or-no (ltb top (v .«
 pub levels-within : (top : ℕ) (v : VenueRules) → overCeiling top v ≡ false → v .«max_levels» ≤ top
 levels-within top v h = ltb-false top (v .«max_levels») (or-no (ltb top (v .«max_orders»)) (ltb top (v .«max_levels»)) h .1)
 
-pub memory-room : (v : VenueRules) (mem : Memory) → memoryShort v (extentOf mem) ≡ false → 8 * v .«max_orders» ≤ length (mem .rows)
-memory-room v mem h = ltb-false (length (mem .rows)) (8 * v .«max_orders») h
+pub memory-room : (v : VenueRules) (mem : Memory) → memoryShort v (extentOf mem) ≡ false → rowWords * v .«max_orders» ≤ length (mem .rows)
+memory-room v mem h = ltb-false (length (mem .rows)) (rowWords * v .«max_orders») h
 
 module _ (b : BookReconstructor) (mem : Memory) (lent : ℕ) (h : tooShort (b .rules) (lengthsWith mem lent) (b .segments) ≡ false) where
   pub memory-lent : memoryShort (b .rules) (extentOf mem) ≡ false
   memory-lent = or-no (memoryShort (b .rules) (extentOf mem)) (ltb lent (b .segments)) h .0
 
-  pub rows-lent : 8 * b .rules .«max_orders» ≤ length (mem .rows)
+  pub rows-lent : rowWords * b .rules .«max_orders» ≤ length (mem .rows)
   rows-lent = memory-room (b .rules) mem memory-lent
 
   pub segments-lent : b .segments ≤ lent
   segments-lent = ltb-false lent (b .segments) (or-no (memoryShort (b .rules) (extentOf mem)) (ltb lent (b .segments)) h .1)
 
 -- the test on lent words is the test on rows, once their number is known to fit
-pub words-rows : (ml : ℕ) (ws : List ℕ) (n : ℕ) → n ≤ mostRows → 8 * n ≤ length ws → wordsBroken ml ws n ≡ rowsBroken ml (rowsOf ws n)
-words-rows ml ws n h k = rw (le-ltb mostRows n h, le-ltb (length ws) (8 * n) k)
+pub words-rows : (ml : ℕ) (ws : List ℕ) (n : ℕ) → n ≤ mostRows → rowWords * n ≤ length ws → wordsBroken ml ws n ≡ rowsBroken ml (rowsOf ws n)
+words-rows ml ws n h k = rw (le-ltb mostRows n h, le-ltb (length ws) (rowWords * n) k)
 
 -- ---- a state that is not broken
 

@@ -18,13 +18,6 @@ pub relast-same : (sg : List Segment) (n : ℕ) → relast sg n (lastSegment sg 
 relast-same sg zero = refl
 relast-same sg (suc n) = set-getD sg n noSegment
 
--- with none, nothing is read and nothing is written
-pub last-none : (sg : List Segment) → lastSegment sg 0 ≡ noSegment
-last-none sg = refl
-
-pub relast-none : (sg : List Segment) (g : Segment) → relast sg 0 g ≡ sg
-relast-none sg g = refl
-
 -- with one, it is the record at n - 1
 pub last-at : (sg : List Segment) (n : ℕ) → 0 < n → lastSegment sg n ≡ segmentAt sg (n - 1)
 last-at sg zero h = absurd (omega (arith, h))

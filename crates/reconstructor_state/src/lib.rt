@@ -88,13 +88,6 @@ impl BookReconstructor {
         }
     }
 
-    pub fn with_counts(mut self, counts: MessageCounts) -> Self
-        ensures { λ r. ⌜ r ≡ withCounts self counts ⌝ }
-    {
-        self.counts = counts;
-        self
-    }
-
     // One more of what `which` names: the counts are lent, and that one is raised in place.
     pub fn counting(mut self, which: Counter) -> Self
         ensures { λ r. ⌜ r ≡ withCounts self (counted (self .counts) which) ⌝ }

@@ -1,3 +1,4 @@
+-- From the last row to the first: `best_with` on the best of the rows behind is `best` of one row more, and at row 0 those are all the rows.
 use Prim.Native.Nat.{_≤_, _-_}
 use mathlib.Core.Path.{_≡_, _∙_}
 use native.Mathlib.Nat.{sub-zero}

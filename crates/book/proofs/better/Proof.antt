@@ -1,3 +1,4 @@
+-- The code splits as the definition does: no price so far, else by the side. Each comparison settles the test of `ahead` for that side.
 use borrow.Author.Tests.{lt-ltb, le-ltb}
 use borrow.Author.Needs.{needs}
 use Rattle.book.proofs.better.Statement.{statement}

@@ -1,3 +1,5 @@
+-- The loop keeps that the search of all rows from 0 is the search of the rows from `i` on, counted from `i`. So a row that has the id is the answer at `i`,
+-- one that has not can be left out, and with no row left nothing is found.
 use Prim.Native.Nat.{_≤_, _-_}
 use mathlib.Core.Path.{_≡_}
 use native.Mathlib.Nat.{sub-zero}

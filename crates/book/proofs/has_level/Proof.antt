@@ -1,3 +1,5 @@
+-- The loop keeps that all rows have the level exactly where the rows from `i` on have it. So a row that rests there settles it, one that does not can be left
+-- out, and with no row left there is no level.
 use Prim.Native.Nat.{_≤_, _-_}
 use mathlib.Core.Path.{_≡_}
 use native.Mathlib.Nat.{sub-zero}

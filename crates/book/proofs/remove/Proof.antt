@@ -1,3 +1,5 @@
+-- The loop keeps the rows `moved`: each place from `i` to below `k` has the row that was behind it, and the words past row `n` are as they were.
+-- At the last row nothing is left to move, and zeroing it gives `removeAt` with an empty row behind, which is how `stored` fills the freed row.
 use Prim.Native.Nat.{_≤_, _<_, _-_, _+_, _*_}
 use mathlib.Core.Path.{_≡_, _∙_, refl}
 use mathlib.Core.List.{[], _∷_, _++_}
@@ -5,7 +7,7 @@ use native.Mathlib.Omega.{arith}
 use lib.ListN.{length, drop}
 use borrow.Author.Needs.{needs}
 use Rattle.laws.proofs.Splice.{moved, move-none}
-use Rattle.book.specs.Rows.{emptyRow, rowsOf, removeAt}
+use Rattle.book.specs.Rows.{rowWords, emptyRow, rowsOf, removeAt}
 use Rattle.book.proofs.Rows.{length-rows, remove-turn, remove-last, rest-set}
 use Rattle.book.proofs.Stored.{stored-remove}
 use Rattle.book.proofs.remove.Statement.{statement}
@@ -16,7 +18,7 @@ Inv-loop rows₀ n i k₀ rows k =
     (i ≤ k)
     × (k < n)
     × (length rows ≡ length rows₀)
-    × (drop (8 * n) rows ≡ drop (8 * n) rows₀)
+    × (drop (rowWords * n) rows ≡ drop (rowWords * n) rows₀)
     × (rowsOf rows n ≡ moved (rowsOf rows₀ n) i (k - i))
 
 abbrev μ-loop : tie.MeasureT-loop
@@ -30,7 +32,7 @@ loop-again c =
     let k-get-row = c .before .before .before .before in
     let k-loop = k-get-row .before .before .before in
     let k-args = k-loop .before .before in
-    let fits : 8 * k-args .args .n ≤ length (k-loop .loop .rows) = omega arith in
+    let fits : rowWords * k-args .args .n ≤ length (k-loop .loop .rows) = omega arith in
     let more : k-loop .loop .k + 1 < k-args .args .n = omega arith in (
       omega arith,
       more,
@@ -50,7 +52,7 @@ returns c =
     let k-empty-row = c .before .before .before in
     let k-loop = k-empty-row .before .before .before in
     let k-args = k-loop .before .before in
-    let fits : 8 * k-args .args .n ≤ length (k-loop .loop .rows) = omega arith in
+    let fits : rowWords * k-args .args .n ≤ length (k-loop .loop .rows) = omega arith in
     let whole : rowsOf (c .before .before .set-row2 .last .0) (k-args .args .n) ≡ removeAt (rowsOf (k-args .args .rows .now) (k-args .args .n)) (k-args .args .i) ++ (emptyRow ∷ []) =
     rw (c .before .before .set-row2 .ensures, k-empty-row .empty-row .ensures)
     (remove-last (rowsOf (k-args .args .rows .now) (k-args .args .n)) (k-loop .loop .rows) (k-args .args .n) (k-args .args .i) (k-loop .loop .k) emptyRow fits

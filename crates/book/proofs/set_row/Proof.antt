@@ -1,10 +1,12 @@
+-- Each of the eight writes leaves the length as it was, so all are within the words; and eight writes at places in a row put `wordsOf` the order in place of
+-- the words there (`sets-eq`), which is `setRow`.
 use Prim.Native.Nat.{_*_}
 use native.Mathlib.Omega.{arith}
 use native.Mathlib.Numerals.{add-one, add-two, add-three, add-four, add-five, add-six, add-seven}
 use lib.ListN.{length-set}
 use lib.Seq.{sets-eq}
 use borrow.Author.Needs.{needs}
-use Rattle.book.specs.Rows.{setRow, wordsOf}
+use Rattle.book.specs.Rows.{rowWords, setRow, wordsOf}
 use Rattle.book.proofs.set_row.Statement.{statement}
 use Rattle.book.proofs.set_row.Tie as tie
 
@@ -36,7 +38,7 @@ returns : tie.Need-returns
 unfolding setRow
 returns c =
     simp (add-one, add-two, add-three, add-four, add-five, add-six, add-seven)
-    (sets-eq (wordsOf (c .args .order)) (c .args .rows .now) (8 * c .args .i) (omega arith))
+    (sets-eq (wordsOf (c .args .order)) (c .args .rows .now) (rowWords * c .args .i) (omega arith))
 
 pub set-row-spec : {M : Type 1} → statement M
 set-row-spec =

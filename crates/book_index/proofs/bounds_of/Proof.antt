@@ -1,3 +1,4 @@
+-- From the last row to the first: bounds widened for a row hold for it, and go on to hold for the rows behind it, since widening never narrows.
 use Prim.Native.Nat.{_≤_, _-_}
 use mathlib.Core.Path.{_≡_}
 use mathlib.Core.Bool.{true}

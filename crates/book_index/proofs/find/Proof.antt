@@ -1,3 +1,5 @@
+-- Every row is marked, so a bucket without a place means that no row has the id; ids are distinct, so a row that `find_near` meets is the first with the id.
+-- In the other cases the plain search answers.
 use mathlib.Core.Path.{sym, ap, _∙_}
 use native.Mathlib.Omega.{arith}
 use lib.ListN.{getD}

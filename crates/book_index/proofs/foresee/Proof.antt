@@ -1,3 +1,5 @@
+-- Only an open asks anything of the bounds, and those of `bounds_for` hold the rows and its price, which `size_of` takes from the amount as the definition
+-- does. For any other event the bounds at hand serve, as they hold the rows.
 use mathlib.Core.Path.{_≡_, ap, _∙_}
 use mir.Syntax.{w64}
 use mir.Val.{toZ, ofZ}

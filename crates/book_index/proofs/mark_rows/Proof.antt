@@ -1,3 +1,4 @@
+-- The loop keeps the first `i` rows marked: a mark writes a place above 0 into the bucket of its row, and so unmarks no other row of that bucket.
 use Prim.Native.Nat.{_≤_, _-_}
 use mathlib.Core.Path.{_≡_, refl}
 use mathlib.Core.Bool.{true}

@@ -1,3 +1,5 @@
+-- The loop keeps that the row at link `j`, if there is one, is in the key's bucket, and that the rows from there on have the key exactly where those from
+-- `first` on have it. The rows that the next link skips are of other buckets, so they cannot have the key; and links get smaller, so the walk ends.
 use Prim.Native.Nat.{_≤_, _-_}
 use mathlib.Core.Path.{_≡_, _∙_, ap, sym}
 use native.Mathlib.Omega.{arith}

@@ -1,3 +1,5 @@
+-- The loop keeps `heads` and `next` the chains of the last `k` rows. The chain of a bucket has every later row with the key, so the search of it tells
+-- whether the key is new, and `count` grows exactly where `countKeys` does.
 use Prim.Native.Nat.{_≤_, _-_, _+_}
 use mathlib.Core.Path.{_≡_, _∙_, ap, sym, refl}
 use mathlib.Core.Logic.{⊎-elim}

@@ -1,3 +1,4 @@
+-- The answer for all rows stays that for the rows from `i` on: a row of the side adds nothing to it, another row makes it true, and no row makes it false.
 use Prim.Native.Nat.{_≤_, _-_}
 use mathlib.Core.Path.{_≡_}
 use native.Mathlib.Nat.{sub-zero}

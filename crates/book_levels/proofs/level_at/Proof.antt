@@ -1,3 +1,5 @@
+-- From the last row to the first: the level of the rows behind, with one row more, is the level of one row more (`level-next`). Each sum stays small, since
+-- every row is sound and there are few.
 use Prim.Native.Nat.{_≤_, _-_}
 use mathlib.Core.Path.{_≡_, _∙_, sym}
 use native.Mathlib.Nat.{sub-zero}

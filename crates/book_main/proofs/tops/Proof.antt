@@ -1,3 +1,5 @@
+-- The function promises nothing but that its calls are allowed. Past `rows_broken` the words hold `n` rows and `n` is within the most (`words-formed`), which
+-- is what each read of the rows asks for.
 use mathlib.Core.Path.{_∙_, sym}
 use borrow.Author.Needs.{needs}
 use Rattle.book.proofs.Kept.{words-formed}

@@ -1,3 +1,5 @@
+-- From the last row to the first: the count is the number of rows at the level from `i` on, and one row more adds one or none. It is at most the number of
+-- rows seen, so it fits.
 use Prim.Native.Nat.{_≤_, _-_}
 use mathlib.Core.Path.{_≡_, _∙_, sym, ap}
 use native.Mathlib.Nat.{sub-zero}

@@ -1,3 +1,4 @@
+-- Words set one behind the other are one splice (`sets-eq`), here of the five words of the entry: the last two are what `observed` and `observed_at` answer.
 use native.Mathlib.Omega.{arith}
 use native.Mathlib.Numerals.{add-one, add-two, add-three, add-four}
 use lib.ListN.{length-set}

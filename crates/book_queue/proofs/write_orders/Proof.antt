@@ -1,3 +1,5 @@
+-- The loop keeps the entries of the first `i` rows at the start of `out`, and `at` their length. These entries are part of the whole, for which there is room,
+-- so each row's entry fits.
 use Prim.Native.Nat.{_-_}
 use mathlib.Core.Path.{_≡_, refl}
 use native.Mathlib.Omega.{arith}

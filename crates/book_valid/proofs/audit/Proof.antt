@@ -1,3 +1,4 @@
+-- The tests of the code are those of `auditOf`, in its order, and each branch settles one; the first two passed lend the rows that the others look at.
 use borrow.Author.Tests.{lt-ltb, le-ltb}
 use borrow.Author.Needs.{needs}
 use Rattle.book_valid.proofs.audit.Statement.{statement}

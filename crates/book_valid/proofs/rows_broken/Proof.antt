@@ -1,3 +1,5 @@
+-- The code tests crossing together with the single rows and levels last, and an `or` comes to the same in any order (`broken-first` to `broken-third`). There
+-- are no more levels than rows, so `n` within the limit answers for the levels without a count.
 use mathlib.Core.Path.{_∙_, sym}
 use native.Mathlib.Omega.{arith}
 use lib.Dec.{ltb}

@@ -1,3 +1,5 @@
+-- From the last row to the first: no row so far is broken, and `bid` and `ask` are the highest buy and the lowest sell of them. A broken row settles the
+-- answer; where there is none, each price lies between the two numbers that stand for no price, so that `ask <= bid` is `crossed`.
 use Prim.Native.Nat.{_≤_, _-_}
 use mathlib.Core.Path.{_≡_, _∙_, ap, ap₂, sym}
 use mathlib.Core.Bool.{true, false}

@@ -1,3 +1,5 @@
+-- The loop keeps that some row is empty exactly where one from `i` on is. So a row with nothing left settles it, one with a rest can be left out, and with no
+-- row left none is empty.
 use Prim.Native.Nat.{_≤_, _-_}
 use mathlib.Core.Path.{_≡_}
 use native.Mathlib.Nat.{sub-zero}

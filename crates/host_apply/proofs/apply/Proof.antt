@@ -1,3 +1,5 @@
+-- `boundary` answers the definition's number, and 0 only where state and message have all their words, so that they can be loaded and stored. Then the work by
+-- value, with its record and its state written back, is what `applied` leaves (`apply-leaves`).
 use mathlib.Core.Path.{sym, ap₂, _∙_}
 use Prim.Native.Nat.{ℕ}
 use mathlib.Core.Bool.{Bool}

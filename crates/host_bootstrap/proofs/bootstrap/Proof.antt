@@ -1,3 +1,5 @@
+-- A number of `boundary` is the answer, with the words as lent; at 0 the state block is whole, so that it can be loaded and written again.
+-- The last record rewritten and then the new one put is one change of the list, the one that `bootstrapCall` makes after the same work (`boot-leaves`).
 use mathlib.Core.Path.{sym, ap, _∙_}
 use Prim.Native.Nat.{ℕ}
 use mathlib.Core.Bool.{Bool, false}

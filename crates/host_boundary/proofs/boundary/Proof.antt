@@ -1,3 +1,6 @@
+-- The tests are those of the definition, in its order. The first one passed says that the state has its 27 words, so the rules can be loaded from a state that
+-- is no book's.
+use Rattle.host_words.specs.Block.{stateWords}
 use borrow.Author.Tests.{ltb-false, not-true, not-false}
 use lib.Dec.{ltb}
 use lib.ListN.{length}
@@ -25,7 +28,7 @@ load-rules-requires : tie.Need-load-rules-requires
 load-rules-requires c κs =
     let k-if1 = c .before .before .before in
     let k-start = k-if1 .before .before in
-    ltb-false (length (k-start .args .state .now)) 27 (or-no (ltb (length (k-start .args .state .now)) 27) (k-start .args .short) (k-if1 .if1 .left) .0)
+    ltb-false (length (k-start .args .state .now)) stateWords (or-no (ltb (length (k-start .args .state .now)) stateWords) (k-start .args .short) (k-if1 .if1 .left) .0)
 
 returns-4 : tie.Need-returns-4
 unfolding boundary

@@ -1,3 +1,4 @@
+-- The kind word that picks an arm of the code passes the same test of `noMessage`; a kind in the last arm fails all six tests, and is no message in both.
 use Rattle.host_boundary.specs.Boundary.{noMessage}
 use borrow.Author.Tests.{ne-eqb}
 use borrow.Author.Needs.{needs}

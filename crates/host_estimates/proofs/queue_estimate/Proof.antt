@@ -1,9 +1,10 @@
+-- `boundary` answers the definition's number, and 0 only where the state can be loaded. Without words for the estimate a valid book is told 7 whether the list
+-- has room or not, so the refusals alone, which `unwritten` works out, tell the number (`estimate-unwritten`).
 use Rattle.book.specs.Memory.{memory, extentOf}
 use mathlib.Core.Path.{sym, ap, _∙_}
 use Prim.Native.Nat.{ℕ}
 use mathlib.Core.Bool.{Bool, false}
 use borrow.Author.Tests.{eq-eqb}
-use lib.ListN.{length}
 use mir.Syntax.{w64}
 use mir.Val.{toZ}
 use Rattle.piece.specs.Piece.{sideOf}

@@ -1,3 +1,5 @@
+-- `boundary` answers the definition's number, and 0 only where state and estimate have all their words, so that both can be loaded. What is loaded is what the
+-- definition reads from the words, so the answer stored is the one that it tells.
 use Rattle.book.specs.Memory.{memory, extentOf}
 use mathlib.Core.Path.{sym, ap, _∙_}
 use Prim.Native.Nat.{ℕ}

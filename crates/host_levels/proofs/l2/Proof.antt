@@ -1,3 +1,5 @@
+-- Past the boundary, and without a word for the number of levels, the read is not needed: its refusals are those of `unwritten`, and any success is 7
+-- (`level-unwritten`). With one, `l2` has written the levels, and `store_level` adds their number (`level-stored`).
 use Rattle.book.specs.Memory.{memory, extentOf}
 use mathlib.Core.Path.{sym, ap, _∙_}
 use Prim.Native.Nat.{ℕ}

@@ -1,3 +1,5 @@
+-- `level_boundary` answers the definition's number, and 0 only where the state can be loaded. Without a word for `count` a valid book is told 7 whether its
+-- entries have room or not, so the refusals alone, which `unwritten` works out, tell the number (`level-unwritten`).
 use Rattle.book.specs.Memory.{memory, extentOf}
 use mathlib.Core.Path.{sym, ap, _∙_}
 use Prim.Native.Nat.{ℕ}

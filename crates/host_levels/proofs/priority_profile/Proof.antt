@@ -1,3 +1,5 @@
+-- By the boundary, then by `count`. Without a word for the number of entries, the checks of `unwritten` are those of the read, and a success is 7 in both;
+-- with one, what the profile leaves of scratch and `out` stays, and `store_level` tells its number of entries (`level-stored`).
 use Rattle.book.specs.Memory.{memory, extentOf}
 use mathlib.Core.Path.{sym, ap, _∙_}
 use Prim.Native.Nat.{ℕ}

@@ -1,3 +1,5 @@
+-- `level_boundary` answers the definition's number, and 0 only where the state can be loaded. Without a word for `count` an invalidated book is told 7 whether
+-- its levels have room or not, so checks and status alone, which `unwritten_stale` looks at, tell the number (`stale-unwritten`).
 use Rattle.book.specs.Memory.{memory, extentOf}
 use mathlib.Core.Path.{sym, ap, _∙_}
 use Prim.Native.Nat.{ℕ}

@@ -1,3 +1,5 @@
+-- Checks and status alone settle which way `staleRead` goes. No refusal is 0, so `lastly` keeps its number; a book that is not invalid is 256; and 7 is
+-- what is left, since an invalid book shows nothing where there is no room.
 use mathlib.Core.Path.{sym}
 use Rattle.reconstructor_reads.specs.LevelReads.{staleRead}
 use Rattle.reconstructor_checks.proofs.StateChecks.{said, said-none}

@@ -1,3 +1,5 @@
+-- By the event's kind: the code lists the same words in the same order as the definition, and each that it works out is promised by its callee. The one step
+-- besides is that an amount survives being held as a word, which open and match need for `bits`.
 use mathlib.Core.Path.{_≡_}
 use mir.Syntax.{w64}
 use mir.Val.{toZ, ofZ}

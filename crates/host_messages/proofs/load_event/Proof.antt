@@ -1,3 +1,4 @@
+-- The kind word that picks a reader passes the same test of `eventOf`; a kind in the last arm fails all five tests, and is an unsupported event in both.
 use borrow.Author.Tests.{ne-eqb}
 use borrow.Author.Needs.{needs}
 use Rattle.host_words.specs.Block.{eventOf}

@@ -1,3 +1,5 @@
+-- A refusal of the reader has its number and writes nothing. A message has 21 words, so with fewer lent it is 7; else the five of the header and the sixteen
+-- of the event, put one behind the other, are all of them (`two-puts`).
 use Rattle.host_answers.specs.Answers.{Answered, answered, toldIn}
 use Rattle.piece.specs.Piece.{pieceNumber, readMessage}
 use Rattle.piece.specs.Words.{messageList, readMessageTold}

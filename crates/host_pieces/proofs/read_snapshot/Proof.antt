@@ -1,3 +1,5 @@
+-- By what the reader of the piece answers. A snapshot is five words, and these fit `out` or the answer is 7 (`given-all`, `given-none`); a refusal is not 0,
+-- so nothing is written (`piece-refused`).
 use Rattle.host_answers.specs.Answers.{Answered, answered, toldIn}
 use Rattle.piece.specs.Piece.{pieceNumber, readSnapshot}
 use Rattle.piece.specs.Words.{snapshotWords, readSnapshotTold}

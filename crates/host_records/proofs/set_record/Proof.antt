@@ -1,10 +1,12 @@
+-- The eight writes go to the places from `8 * i` on, a field each in the order of `encodeRecord`, and none changes the length; so all are within the words,
+-- and together they put the record's words in place of those there (`sets-eq`).
 use Prim.Native.Nat.{_*_}
 use native.Mathlib.Omega.{arith}
 use native.Mathlib.Numerals.{add-one, add-two, add-three, add-four, add-five, add-six, add-seven}
 use borrow.Author.Needs.{needs}
 use lib.ListN.{length-set}
 use lib.Seq.{sets-eq}
-use Rattle.host_records.specs.Records.{setRecord, encodeRecord}
+use Rattle.host_records.specs.Records.{recordWords, setRecord, encodeRecord}
 use Rattle.host_records.proofs.set_record.Statement.{statement}
 use Rattle.host_records.proofs.set_record.Tie as tie
 
@@ -36,7 +38,7 @@ returns : tie.Need-returns
 unfolding setRecord
 returns c =
     simp (add-one, add-two, add-three, add-four, add-five, add-six, add-seven)
-    (sets-eq (encodeRecord (c .args .segment)) (c .args .words .now) (8 * c .args .i) (omega arith))
+    (sets-eq (encodeRecord (c .args .segment)) (c .args .words .now) (recordWords * c .args .i) (omega arith))
 
 pub set-record-spec : {M : Type 1} → statement M
 set-record-spec =

@@ -1,3 +1,5 @@
+-- A usable state passes 1, 2 and 3, so work that trusts it is the work of `applyCall` (`applies`). It stays usable, and the index goes on to fit the rows:
+-- `foresee` has made the bounds wide enough for an order that the event adds, and `note` marks it (`runs-on`).
 use native.Mathlib.Omega.{arith}
 use borrow.Author.Needs.{needs}
 use Rattle.book.specs.Rows.{mostRows}

@@ -1,3 +1,5 @@
+-- The tests come in the definition's order: the boundary, then 1, 2 or 3 of the loaded state, then 7. Past all of them the words are `Ready`, and the run with
+-- few places and the run with many promise the same.
 use mathlib.Core.Path.{sym, ap, _∙_}
 use Prim.Native.Nat.{ℕ}
 use mathlib.Core.Bool.{Bool, false}

@@ -1,3 +1,5 @@
+-- The loop keeps what the whole run comes to: the answers written, then the run of the messages left on the words as they are now. A turn moves one call
+-- from that run to the answers, since `replay_message` is `applyCall` and leaves an index for the next; with no message left the words are the result.
 use Prim.Native.Nat.{_-_, _*_}
 use mathlib.Core.Path.{sym, _∙_}
 use native.Mathlib.Omega.{arith}

@@ -1,3 +1,5 @@
+-- A usable state lends its rows, so they can be marked and bounded. All rows marked, all within the bounds and all ids distinct is an index of them
+-- (`runs-start`), which is what `replay_from` asks for besides what `Ready` has.
 use native.Mathlib.Omega.{arith}
 use borrow.Author.Needs.{needs}
 use Rattle.book.specs.Memory.{memory}

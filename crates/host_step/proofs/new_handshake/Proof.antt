@@ -1,3 +1,5 @@
+-- A number of `own_boundary`, and 7 for fewer than four words, leave the words as lent. Past both the state block is whole and loads as `bookOf`, whose
+-- segment the new handshake is for.
 use mathlib.Core.Path.{sym, ap, _∙_}
 use Prim.Native.Nat.{ℕ}
 use borrow.Author.Tests.{eq-eqb, lt-ltb, le-ltb}

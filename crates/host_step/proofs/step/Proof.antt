@@ -1,3 +1,5 @@
+-- `boundary` is told whether the handshake or the message is too short or wrong, so 0 says that state, handshake and message can be loaded and stored. Then
+-- the work by value, with record, state and handshake written back, is what `stepped` leaves (`step-leaves`).
 use mathlib.Core.Path.{sym, ap₂, _∙_}
 use Prim.Native.Nat.{ℕ}
 use mathlib.Core.Bool.{Bool, _||_}

@@ -1,9 +1,10 @@
+-- `boundary` answers the definition's number, and 0 only where the state has the words that `load_book` reads. The book loaded is the definition's, so the
+-- best prices read and stored are the ones that it tells.
 use Rattle.book.specs.Memory.{memory, extentOf}
 use mathlib.Core.Path.{sym, ap, _∙_}
 use Prim.Native.Nat.{ℕ}
 use mathlib.Core.Bool.{false}
 use borrow.Author.Tests.{eq-eqb}
-use lib.ListN.{length}
 use Rattle.host_boundary.proofs.Passed.{passed, turned-away, goes-on}
 use Rattle.reconstructor_view.specs.Numbers.{bestTold}
 use Rattle.host_answers.specs.Answers.{answered, toldIn}

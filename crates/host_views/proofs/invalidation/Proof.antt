@@ -1,3 +1,5 @@
+-- A number of `own_boundary` is the answer; at 0 the state block is whole, and loads as `bookOf`. The status alone tells the invalidation, so no rows are
+-- asked for, and `store_invalidation` tells it as `toldIn` does.
 use mathlib.Core.Path.{sym, ap, _∙_}
 use Prim.Native.Nat.{ℕ}
 use borrow.Author.Tests.{eq-eqb}

@@ -1,9 +1,10 @@
+-- A number of `boundary` is the answer; at 0 the state block is whole, and loads as `bookOf`. The rows are tested by the read itself, and `store_last` tells
+-- what it answers as `toldIn` does.
 use Rattle.book.specs.Memory.{memory, extentOf}
 use mathlib.Core.Path.{sym, ap, _∙_}
 use Prim.Native.Nat.{ℕ}
 use mathlib.Core.Bool.{false}
 use borrow.Author.Tests.{eq-eqb}
-use lib.ListN.{length}
 use Rattle.host_boundary.proofs.Passed.{passed, turned-away, goes-on}
 use Rattle.reconstructor_view.specs.Numbers.{sequenceTold}
 use Rattle.host_answers.specs.Answers.{answered, toldIn}

@@ -1,3 +1,5 @@
+-- No rows are lent, so `own_boundary` alone says whether the state can be loaded. Of the list the read takes only the record at the place and how many there
+-- are, and the words give both as `recordsOf` does (`length-records`).
 use mathlib.Core.Path.{sym, ap, ap₂, _∙_}
 use Prim.Native.Nat.{ℕ}
 use borrow.Author.Tests.{eq-eqb}

@@ -1,3 +1,4 @@
+-- The loop keeps `out` with the first `i` of the words pasted from `at` on: a write is one word more (`paste-suc`), and all of them are the splice.
 use Prim.Native.Nat.{_≤_, _-_}
 use native.Mathlib.Omega.{arith}
 use native.Mathlib.Numerals.{add-one}

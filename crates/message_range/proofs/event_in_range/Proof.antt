@@ -1,3 +1,5 @@
+-- By the kind of event, as `eventInRange` splits: the amounts that are tested are those of the definition, in its order. A plain amount is the same
+-- after its way through a word (`toZ` of `ofZ`).
 use mathlib.Core.Path.{_≡_}
 use mir.Syntax.{w64}
 use mir.Val.{toZ, ofZ}

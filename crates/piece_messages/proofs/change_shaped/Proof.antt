@@ -1,3 +1,5 @@
+-- Without a branch: each call reads the byte, the bit of byte 51 or the eight bytes that `changeShaped` names, and the last of these end at byte 100,
+-- the length; so its contract rewrites one part of the conjunction.
 use borrow.Author.Needs.{needs}
 use Rattle.piece.specs.Piece.{changeShaped}
 use Rattle.piece_messages.proofs.change_shaped.Statement.{statement}

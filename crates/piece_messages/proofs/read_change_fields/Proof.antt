@@ -1,3 +1,5 @@
+-- Without a branch: each field is read at the place, and under the bit of byte 51, that `changeFieldsAt` has for it, so the contracts rewrite the record
+-- field by field; the last field ends at byte 100, the length.
 use borrow.Author.Needs.{needs}
 use Rattle.piece.specs.Piece.{changeFieldsAt}
 use Rattle.piece_messages.proofs.read_change_fields.Statement.{statement}

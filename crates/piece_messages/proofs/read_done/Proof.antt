@@ -1,3 +1,5 @@
+-- A length that is not 68 fails the definition's first test. At 68 every place that is read is within the bytes, and each field read, like the shape, is the
+-- definition's by its reader's contract.
 use borrow.Author.Tests.{ne-eqb, eq-eqb}
 use borrow.Author.Needs.{needs}
 use Rattle.piece.specs.Piece.{readDone, eventIf}

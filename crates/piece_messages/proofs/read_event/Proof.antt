@@ -1,3 +1,5 @@
+-- The match and the definition compare the kind byte with the same six numbers, and each reader promises its part. The two cases of no event are 0, which
+-- meets none of the six, and the rest, where the match has failed them all.
 use borrow.Author.Tests.{ne-eqb}
 use borrow.Author.Needs.{needs}
 use Rattle.piece.specs.Piece.{readEvent}

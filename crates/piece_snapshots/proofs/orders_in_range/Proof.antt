@@ -1,3 +1,5 @@
+-- The loop keeps that all orders are in range exactly where those from `place` on are. So an order out of range settles it, one in range can be left out, and
+-- with no order left all are in range.
 use Prim.Native.Nat.{_≤_, _-_}
 use native.Mathlib.Nat.{sub-zero}
 use native.Mathlib.Omega.{arith}

@@ -1,3 +1,5 @@
+-- Fewer than 41 bytes have no snapshot's shape, which asks for 41 and more (`short-snapshot`), so the early 4 is the definition's. The counts read are
+-- `bidsAt` and `asksAt`, so the orders tested for 5 are those of `snapshotOf`.
 use mathlib.Core.Path.{refl}
 use denote.Ref.{now}
 use borrow.Author.Tests.{not-true, not-false}

@@ -1,3 +1,5 @@
+-- The code tests range, product and status in the order of `admitRefusal`, so each stop is the first refusal that holds. Only a valid status refuses nothing,
+-- and its last sequence is the one that goes on.
 use mathlib.Core.Path.{ap, sym}
 use borrow.Author.Needs.{needs}
 use Rattle.reconstructor.specs.Refusals.{statusRefusal, admitRefusal}

@@ -1,3 +1,5 @@
+-- By the answer of `take_turn`: where it plans, the rules do not refuse, and the plan fits and has the outcome of their deed, so committing it is their
+-- acceptance. Where it breaks, the rules refuse for that reason, and the rows stay.
 use mathlib.Core.Path.{_∙_, ap}
 use borrow.Author.Needs.{needs}
 use Rattle.reconstructor.specs.declared.Reply.{Reply}

@@ -1,3 +1,5 @@
+-- Whatever the plan, the words become `stored` of its outcome's orders, and the rows counted are as many as these orders; that is `committed` (`commits`). A
+-- plan that fits names a row in use, or there is room behind the last, as the callees ask.
 use mathlib.Core.Path.{sym}
 use native.Mathlib.Omega.{arith}
 use lib.ListN.{length-append, length-set}

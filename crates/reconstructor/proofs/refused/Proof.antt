@@ -1,3 +1,4 @@
+-- By the answer, as `refusedBook` splits: only another product and an invalid book are counted, each by the contract of `counting`; else the book stays.
 use borrow.Author.Needs.{needs}
 use Rattle.reconstructor.specs.Applied.{refusedReply}
 use Rattle.reconstructor.proofs.refused.Statement.{statement}

@@ -1,3 +1,5 @@
+-- The tests of the sequence are those of `turnRefusal`, in its order, and 22 passed lets `last + 1` fit a word. Past them `plan_event` answers the event's
+-- refusal, which ends the chain, or a plan for its deed.
 use mathlib.Core.Path.{refl}
 use borrow.Author.Tests.{ne-eqb, lt-leb, le-ltb}
 use borrow.Author.Needs.{needs}

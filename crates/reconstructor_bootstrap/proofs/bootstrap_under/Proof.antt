@@ -1,3 +1,5 @@
+-- By what `own_checks` says, then by what the piece reads as: each refusal is the first that `bootstrappedTo` meets (`unusable`, `not-read`). Past both
+-- the state is usable under `mostRows`, as `bootstrap_usable` requires, and what that leaves is the definition's (`read`).
 use mathlib.Core.Path.{sym, ap, _∙_}
 use borrow.Author.Needs.{needs}
 use Rattle.book.specs.Memory.{memory}

@@ -1,3 +1,5 @@
+-- 6 and then 10 to 14 are tested as the definition does. A usable state is lent rows up to its limit and a list no shorter than its count; so past 6 the count
+-- is below the list's length and can grow, and past 14 the rows have room for the orders, as `accept` asks.
 use mathlib.Core.Path.{ap, _∙_}
 use Prim.Native.Nat.{_+_}
 use native.Mathlib.Omega.{arith}

@@ -1,3 +1,5 @@
+-- The loop keeps the whole answer equal to that of `inTurn` from row `i` on, and `levels` the number of levels before it. So each test of a turn is the
+-- next check of the definition, and past the last row 13 alone is left to ask.
 use borrow.Author.Needs.{needs}
 use Prim.Native.Nat.{_≤_, _-_}
 use mathlib.Core.Path.{_≡_, refl, sym, ap₂, _∙_}

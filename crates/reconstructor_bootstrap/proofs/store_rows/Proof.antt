@@ -1,3 +1,5 @@
+-- The first loop keeps the first `i` rows those of the orders, the second the rows up to `k` those with blank ones behind, and both the words beyond as
+-- they were. Blank rows are zeros, so the end is `stored`.
 use mathlib.Core.Path.{_≡_, refl, _∙_}
 use borrow.Author.Needs.{needs}
 use Prim.Native.Nat.{_≤_, _-_, max}

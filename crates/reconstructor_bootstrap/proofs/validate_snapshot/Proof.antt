@@ -1,3 +1,5 @@
+-- 10, then 14 of the orders, are tested as the definition does. Once 14 is passed the sum of bids and asks is within the limit, so it can be formed and the
+-- orders validated; and the orders by place are the snapshot's line (`line-places`).
 use mathlib.Core.Path.{sym, ap, _∙_}
 use Prim.Native.Nat.{_+_, _≤_}
 use native.Mathlib.Omega.{arith}

@@ -1,3 +1,5 @@
+-- 1, 2 and 3 are tested as the definition does, 2 of the rows and of the list in one. 1 passed bounds the limit, so that 2 can be worked out; 2 passed says
+-- that the rows are lent, which 3 asks for.
 use mathlib.Core.Path.{_∙_, sym, refl}
 use native.Mathlib.Omega.{arith}
 use borrow.Author.Needs.{needs}

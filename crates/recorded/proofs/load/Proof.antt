@@ -1,3 +1,5 @@
+-- The loop keeps that loading what is left of the bytes from `i` on, into the words as they are, gives what the whole load gives. A turn is one step of
+-- `loaded`, which changes nothing once fewer than eight bytes or no places are left.
 use Prim.Native.Nat.{_-_}
 use mathlib.Core.Path.{_≡_, refl, sym, _∙_}
 use native.Mathlib.Omega.{arith}

@@ -1,3 +1,5 @@
+-- The reader writes to the blank words that `ifRead` reads into, so its number and words are the definition's. Another number than 0 is the answer, with
+-- nothing touched; at 0 `pinuglaw_step` is called with these words.
 use denote.Ref.{now}
 use Rattle.host_calls.specs.Calls.{stepCalled, stepCall}
 use Rattle.recorded.proofs.Read.{turned-away, goes-on}

@@ -1,3 +1,5 @@
+-- 9, 5 and the drop are tested in the order of `stepTo`, and leave the handshake and the record as they are. Else `apply_trusted` decides, and the end and the
+-- number applied, stored one by one, are what the definition makes of its answer (`decided-parts`).
 use mathlib.Core.Path.{_∙_, sym, ap}
 use mathlib.Core.Bool.{not, _||_}
 use borrow.Author.Needs.{needs}

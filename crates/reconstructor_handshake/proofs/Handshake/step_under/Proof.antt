@@ -1,3 +1,5 @@
+-- By what `own_checks` says: 1, 2 or 3 comes first in `stepRefusal`, and leaves all unchanged (`unusable-work`). Passed, the state can be trusted, and a
+-- step that asks for 1, 2 and 3 no more is the same step (`usable-work`).
 use borrow.Author.Needs.{needs}
 use mathlib.Core.Path.{_∙_, sym}
 use Rattle.book.specs.Memory.{memory}

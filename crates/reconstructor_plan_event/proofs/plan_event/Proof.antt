@@ -1,10 +1,12 @@
+-- By the kind of event: the contract of each kind's plan is this one at that kind, for any rules and sequence where it looks at none. A received event is
+-- only counted, and an unsupported one is refused.
 use mathlib.Core.Path.{_≡_, refl}
 use mir.Syntax.{w64}
 use mir.Val.{toZ, ofZ}
 use borrow.Author.Needs.{needs}
 use Rattle.reconstructor_plan.specs.Rules.{eventRefusal, eventDeed, effect, counterOf}
-use Rattle.reconstructor_plan.proofs.plan_event.Statement.{statement}
-use Rattle.reconstructor_plan.proofs.plan_event.Tie as tie
+use Rattle.reconstructor_plan_event.proofs.plan_event.Statement.{statement}
+use Rattle.reconstructor_plan_event.proofs.plan_event.Tie as tie
 
 returns : tie.Need-returns
 unfolding eventRefusal eventDeed effect counterOf

@@ -1,3 +1,5 @@
+-- What the search finds in the rows is what the rules find in the line, so each test is theirs, in their order. Past the last one the maker's row, cut by the
+-- size and gone at zero, is the line that they leave (`cut-outcome`), under any rules and at any sequence.
 use mathlib.Core.Path.{refl}
 use native.Mathlib.Omega.{arith}
 use borrow.Author.Tests.{ne-eqb, le-ltb}
@@ -5,12 +7,12 @@ use Prim.Native.Nat.{_-_}
 use borrow.Author.Needs.{needs}
 use Rattle.book.specs.declared.Decrease.the-variants.{Unmarked}
 use Rattle.reconstructor_counts.specs.declared.Counter.the-variants.{Matched}
 use Rattle.reconstructor_plan.specs.Rules.{eventRefusal, makerRefusal, eventDeed, effect, counterOf}
 use Rattle.message.proofs.Signed.{back, sized}
 use Rattle.reconstructor_state.proofs.Checks.{fails, goes-on, told-false, links}
 use Rattle.reconstructor_plan.proofs.Found.{cut-outcome, cut-fits, at-row, row-entry, it-rests, no-row}
-use Rattle.reconstructor_plan.proofs.plan_match.Statement.{statement}
-use Rattle.reconstructor_plan.proofs.plan_match.Tie as tie
+use Rattle.reconstructor_plan_changes.proofs.plan_match.Statement.{statement}
+use Rattle.reconstructor_plan_changes.proofs.plan_match.Tie as tie
 
 returns : tie.Need-returns
 unfolding eventRefusal makerRefusal eventDeed effect counterOf

@@ -1,3 +1,5 @@
+-- The search finds the order that `find` has in the line, or both find none; then the tests are those of `changeRefusal`, in its order. Past them the new size
+-- is equal to what is left, and nothing is done, or smaller, and a cut of the found row is `cutRows` by its id (`cut-outcome`).
 use mathlib.Core.Path.{_≡_, _∙_, ap, refl}
 use native.Mathlib.Omega.{arith}
 use borrow.Author.Tests.{eq-eqb, ne-eqb, lt-ltb, le-ltb}
@@ -7,11 +9,11 @@ use borrow.Author.Needs.{needs}
 use Rattle.book.specs.declared.Decrease.the-variants.{Marked}
 use Rattle.reconstructor_counts.specs.declared.Counter.the-variants.{Stp}
 use Rattle.message.specs.Amounts.{natOf}
 use Rattle.reconstructor_plan.specs.Rules.{eventRefusal, changeRefusal, sizeRefusal, eventDeed, effect, counterOf}
 use Rattle.reconstructor_state.proofs.Checks.{fails, goes-on, told-true, told-false, links}
 use Rattle.reconstructor_plan.proofs.Found.{cut-outcome, cut-fits, at-row, row-entry, no-row}
-use Rattle.reconstructor_plan.proofs.plan_change.Statement.{statement}
-use Rattle.reconstructor_plan.proofs.plan_change.Tie as tie
+use Rattle.reconstructor_plan_changes.proofs.plan_change.Statement.{statement}
+use Rattle.reconstructor_plan_changes.proofs.plan_change.Tie as tie
 
 returns : tie.Need-returns
 unfolding eventRefusal changeRefusal sizeRefusal eventDeed effect counterOf

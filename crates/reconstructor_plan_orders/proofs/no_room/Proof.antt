@@ -1,7 +1,7 @@
 use borrow.Author.Needs.{needs}
 use Rattle.reconstructor_plan.proofs.Found.{room-enough}
-use Rattle.reconstructor_plan.proofs.no_room.Statement.{statement}
-use Rattle.reconstructor_plan.proofs.no_room.Tie as tie
+use Rattle.reconstructor_plan_orders.proofs.no_room.Statement.{statement}
+use Rattle.reconstructor_plan_orders.proofs.no_room.Tie as tie
 
 returns : tie.Need-returns
 returns c =

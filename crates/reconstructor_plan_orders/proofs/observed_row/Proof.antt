@@ -1,6 +1,6 @@
 use borrow.Author.Needs.{needs}
-use Rattle.reconstructor_plan.proofs.observed_row.Statement.{statement}
-use Rattle.reconstructor_plan.proofs.observed_row.Tie as tie
+use Rattle.reconstructor_plan_orders.proofs.observed_row.Statement.{statement}
+use Rattle.reconstructor_plan_orders.proofs.observed_row.Tie as tie
 
 returns : tie.Need-returns
 returns c = rw (c .enum-told .given .1)

@@ -1,12 +1,14 @@
+-- The search finds the order that `find` has in the line, or both find none, which is no effect; then the tests are those of `doneRefusal`, in its order,
+-- and a fill never passes. Past them the found row is removed, which is `cutRows` by its id to 0.
 use mathlib.Core.Path.{refl}
 use native.Mathlib.Omega.{arith}
 use borrow.Author.Needs.{needs}
 use Rattle.book.specs.declared.Decrease.the-variants.{Unmarked}
 use Rattle.reconstructor_plan.specs.Rules.{eventRefusal, doneRefusal, eventDeed, effect, counterOf}
 use Rattle.reconstructor_state.proofs.Checks.{links}
 use Rattle.reconstructor_plan.proofs.Found.{at-row, row-entry, no-row}
-use Rattle.reconstructor_plan.proofs.plan_done.Statement.{statement}
-use Rattle.reconstructor_plan.proofs.plan_done.Tie as tie
+use Rattle.reconstructor_plan_orders.proofs.plan_done.Statement.{statement}
+use Rattle.reconstructor_plan_orders.proofs.plan_done.Tie as tie
 
 returns : tie.Need-returns
 unfolding eventRefusal doneRefusal eventDeed effect counterOf

@@ -1,13 +1,15 @@
+-- Search, amounts, crossing and room are the rules' own tests of the line, in the order of `openRefusal`. Past them `n` is below the limit of orders, for
+-- which the words have room, so the row can be inserted; and it is the one that the rules add.
 use mathlib.Core.Path.{refl}
 use native.Mathlib.Omega.{arith}
 use borrow.Author.Tests.{ne-eqb, le-leb, lt-leb}
 use borrow.Author.Needs.{needs}
 use Rattle.reconstructor_plan.specs.Rules.{eventRefusal, openRefusal, eventDeed, effect, counterOf}
 use Rattle.reconstructor_state.proofs.Checks.{fails, goes-on, told-true, told-false, links}
 use Rattle.message.proofs.Signed.{sized}
 use Rattle.reconstructor_plan.proofs.Found.{it-rests, no-row, line-length}
-use Rattle.reconstructor_plan.proofs.plan_open.Statement.{statement}
-use Rattle.reconstructor_plan.proofs.plan_open.Tie as tie
+use Rattle.reconstructor_plan_orders.proofs.plan_open.Statement.{statement}
+use Rattle.reconstructor_plan_orders.proofs.plan_open.Tie as tie
 
 returns : tie.Need-returns
 unfolding eventRefusal openRefusal eventDeed effect counterOf
