@@ -25,7 +25,7 @@ APPLY = Shell(
 )
 
 BOOTSTRAP = Shell(
-    file="crates/reconstructor_bootstrap/proofs/BootShell.antt",
+    file="crates/reconstructor_bootstrap_list/proofs/BootShell.antt",
     function="bootstrap",
     argument="that of `apply`, with bytes for the message, and a record that is appended.",
     data="B D Y",

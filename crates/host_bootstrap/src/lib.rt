@@ -23,7 +23,7 @@ pub fn bootstrap(state: &mut [u64], rows: &mut [u64], segments: &mut [u64], byte
     let book = load_book(state);
     let count = book.segments;
     let last = last_record(segments, count);
-    let work = reconstructor_bootstrap::bootstrap_by_value(book, rows, lent, last, bytes);
+    let work = reconstructor_bootstrap_work::bootstrap_by_value(book, rows, lent, last, bytes);
     rewrite_record(segments, count, work.segment);
     put_record(segments, work.at, work.started);
     let answer = work.answer;

@@ -3,4 +3,3 @@ pub mod Filled
 pub mod InTurn
 pub mod Whole
 pub mod Laws
-pub mod BootShell
