@@ -13,7 +13,7 @@ use Rattle.piece.specs.Piece.{readSnapshot}
 use Rattle.reconstructor_answers.specs.declared.ApplyAnswer.{ApplyAnswer}
 use Rattle.reconstructor_answers.specs.declared.InvalidationKind.{InvalidationKind}
 use Rattle.reconstructor_state.specs.declared.VenueRules.{VenueRules}
-use Rattle.reconstructor_state.specs.State.{ceiling, View, Lengths, lastOf}
+use Rattle.reconstructor_state.specs.State.{View, Lengths, lastOf}
 use Rattle.reconstructor.specs.Refusals.{gateRefusal, turnRefusal}
 use Rattle.reconstructor.proofs.Kept.{turn-event}
 use Rattle.reconstructor_bootstrap.specs.declared.SnapshotAnswer.{SnapshotAnswer}
@@ -38,13 +38,13 @@ step-settled (some n) d o h = absurd-path cc
 step-settled none true o h = absurd-path cc
 step-settled none false o h = (refl, refl, h)
 
-module _ (c : Config) (n : Lengths) (three : Bool) (w : View) where
-  pub in-turn : (m : L3Message) → applyOutcome c n three w m ≡ accepted
-      → (gateRefusal ceiling (c .product) (c .rules) n three w m ≡ none) × (turnRefusal (c .rules) (w .line) (lastOf (w .status)) m ≡ none)
+module _ (top : ℕ) (c : Config) (n : Lengths) (three : Bool) (w : View) where
+  pub in-turn : (m : L3Message) → applyOutcome top c n three w m ≡ accepted
+      → (gateRefusal top (c .product) (c .rules) n three w m ≡ none) × (turnRefusal (c .rules) (w .line) (lastOf (w .status)) m ≡ none)
   unfolding applyOutcome
   in-turn m h = settled _ _ h
 
-  pub step-applies : (h : Handshake) (m : L3Message) → stepOutcome c n three w h m ≡ accepted → applyOutcome c n three w m ≡ accepted
+  pub step-applies : (h : Handshake) (m : L3Message) → stepOutcome top c n three w h m ≡ accepted → applyOutcome top c n three w m ≡ accepted
   unfolding stepOutcome
   step-applies h m q = step-settled _ _ _ q .2
 
@@ -61,17 +61,17 @@ boot-tallies (some a) s bytes w f t = t
 boot-tallies none (pieces.Refused e) bytes w f t = t
 boot-tallies none (pieces.Snapshot s) bytes w f t = tallied-tallies (snapshotLine s bytes)
 
-module _ (c : Config) where
-  feed-tallies : (w : View) (k : Call) (f : Figure) → Tallies f (w .line) → Tallies (feedFigure c w k f) (feedView c w k .line)
+module _ (top : ℕ) (c : Config) where
+  feed-tallies : (w : View) (k : Call) (f : Figure) → Tallies f (w .line) → Tallies (feedFigure top c w k f) (feedView top c w k .line)
   unfolding feedView feedFigure
-  feed-tallies w (bootstrap n bytes) f t = boot-tallies (bootOutcome c n w bytes) (readSnapshot bytes) bytes w f t
-  feed-tallies w (apply n m) f t = by-tallies (c .rules) m w f _ (λ h. in-turn c n false w m h .1) t
-  feed-tallies w (step n h m) f t = by-tallies (c .rules) m w f _ (λ q. in-turn c n false w m (step-applies c n false w h m q) .1) t
+  feed-tallies w (bootstrap n bytes) f t = boot-tallies (bootOutcome top c n w bytes) (readSnapshot bytes) bytes w f t
+  feed-tallies w (apply n m) f t = by-tallies (c .rules) m w f _ (λ h. in-turn top c n false w m h .1) t
+  feed-tallies w (step n h m) f t = by-tallies (c .rules) m w f _ (λ q. in-turn top c n false w m (step-applies top c n false w h m q) .1) t
   feed-tallies w (read q) f t = t
 
-  pub all-tallies : (l : Ledger) (ks : List Call) → Tallies (l .figure) (l .view .line) → Tallies (feedAll c l ks .figure) (feedAll c l ks .view .line)
+  pub all-tallies : (l : Ledger) (ks : List Call) → Tallies (l .figure) (l .view .line) → Tallies (feedAll top c l ks .figure) (feedAll top c l ks .view .line)
   all-tallies l [] t = t
-  all-tallies l (k ∷ ks) t = all-tallies (feed c l k) ks (feed-tallies (l .view) k (l .figure) t)
+  all-tallies l (k ∷ ks) t = all-tallies (feed top c l k) ks (feed-tallies (l .view) k (l .figure) t)
 
 pub fresh-tallies : Tallies (fresh .figure) (fresh .view .line)
 unfolding Tallies

@@ -28,7 +28,7 @@ use Rattle.reconstructor_state.specs.declared.BookReconstructor.{BookReconstruc
 use Rattle.reconstructor_state.specs.declared.Status.{Status}
 use Rattle.reconstructor_state.specs.declared.Status.the-variants as statuses
 use Rattle.reconstructor_state.specs.Checks.{check, first}
-use Rattle.reconstructor_state.specs.State.{ceiling, View, lastOf}
+use Rattle.reconstructor_state.specs.State.{View, lastOf}
 use Rattle.reconstructor_state.proofs.Checks.{fails, goes-on, first-fails, first-on}
 use Rattle.reconstructor_checks.specs.StateChecks.{overCeiling, memoryShort, broken}
 use Rattle.reconstructor_checks.proofs.StateChecks.{sound, memory-room}
@@ -52,12 +52,12 @@ use Rattle.ledger.proofs.Follow.{Follows, broken-rows}
 -- ---- by the ledger's view, with 3 aside
 
 -- an invalid one turns a read away, by its number
-invalid-says : (v : VenueRules) (lent : Extent) (short : Bool) (s : Status) → standingOf s ≡ invalid
-    → (e : ViewError) × (viewRefusal ceiling v lent short false s ≡ some e) × (viewErrorNumber e ≡ invalidNumber v lent short)
+invalid-says : (top : ℕ) (v : VenueRules) (lent : Extent) (short : Bool) (s : Status) → standingOf s ≡ invalid
+    → (e : ViewError) × (viewRefusal top v lent short false s ≡ some e) × (viewErrorNumber e ≡ invalidNumber top v lent short)
 unfolding viewRefusal readRefusal check first
-invalid-says v lent short statuses.Empty h = let z : _≡_ {A = ℕ} 0 1 = cc in absurd (omega arith)
-invalid-says v lent short (statuses.Valid last) h = let z : _≡_ {A = ℕ} 0 1 = cc in absurd (omega arith)
-invalid-says v lent short (statuses.Invalidated i) h = go (overCeiling ceiling v) (memoryShort v lent || short)
+invalid-says top v lent short statuses.Empty h = let z : _≡_ {A = ℕ} 0 1 = cc in absurd (omega arith)
+invalid-says top v lent short (statuses.Valid last) h = let z : _≡_ {A = ℕ} 0 1 = cc in absurd (omega arith)
+invalid-says top v lent short (statuses.Invalidated i) h = go (overCeiling top v) (memoryShort v lent || short)
   where
     go : (x y : Bool)
         → (e : ViewError) × (first (check x LimitAboveCeiling (check y LentTooShort (check false MalformedBook none))) errors.Unusable (some (errors.Invalidated i)) ≡ some e)
@@ -67,16 +67,16 @@ invalid-says v lent short (statuses.Invalidated i) h = go (overCeiling ceiling v
     go false false = (errors.Invalidated i, refl, refl)
 
 -- lent enough, none of 1, 2 and 3
-enough-read : (v : VenueRules) (lent : Extent) (scratch : ℕ) → Enough v lent scratch → readRefusal ceiling v lent (ltb scratch (v .«max_orders»)) false ≡ none
+enough-read : (top : ℕ) (v : VenueRules) (lent : Extent) (scratch : ℕ) → Enough top v lent scratch → readRefusal top v lent (ltb scratch (v .«max_orders»)) false ≡ none
 unfolding readRefusal
-enough-read v lent scratch e =
+enough-read top v lent scratch e =
     goes-on _ _ _ _ (e .within) (goes-on _ _ _ _ (or-both _ _ (e .memory) (le-ltb scratch (v .«max_orders») (e .room))) (goes-on _ _ _ _ refl refl))
 
-valid-says : (v : VenueRules) (lent : Extent) (scratch : ℕ) (s : Status) → standingOf s ≡ valid → Enough v lent scratch → viewRefusal ceiling v lent (ltb scratch (v .«max_orders»)) false s ≡ none
+valid-says : (top : ℕ) (v : VenueRules) (lent : Extent) (scratch : ℕ) (s : Status) → standingOf s ≡ valid → Enough top v lent scratch → viewRefusal top v lent (ltb scratch (v .«max_orders»)) false s ≡ none
 unfolding viewRefusal
-valid-says v lent scratch statuses.Empty h e = let z : _≡_ {A = ℕ} 0 1 = cc in absurd (omega arith)
-valid-says v lent scratch (statuses.Valid last) h e = first-on _ _ _ _ (enough-read v lent scratch e) refl
-valid-says v lent scratch (statuses.Invalidated i) h e = let z : _≡_ {A = ℕ} 0 1 = cc in absurd (omega arith)
+valid-says top v lent scratch statuses.Empty h e = let z : _≡_ {A = ℕ} 0 1 = cc in absurd (omega arith)
+valid-says top v lent scratch (statuses.Valid last) h e = first-on _ _ _ _ (enough-read top v lent scratch e) refl
+valid-says top v lent scratch (statuses.Invalidated i) h e = let z : _≡_ {A = ℕ} 0 1 = cc in absurd (omega arith)
 
 -- ---- what is shown where the output has room
 
@@ -92,16 +92,16 @@ level-answer : (o : Option ViewError) (w : Shows) (sc out : List ℕ) → o ≡ 
 unfolding levelRead
 level-answer o w sc out h = rw h
 
-stale-answer : (b : BookReconstructor) (mem : Memory) (sc : List ℕ) (t : Status) (w : Shows) (out : List ℕ) → readRefusalOf ceiling b mem (scratchShort b sc) ≡ none → standingOf t ≡ invalid
-    → staleRead (readRefusalOf ceiling b mem (scratchShort b sc)) t w sc out .answer ≡ stales.Shown (w .answer)
+stale-answer : (top : ℕ) (b : BookReconstructor) (mem : Memory) (sc : List ℕ) (t : Status) (w : Shows) (out : List ℕ) → readRefusalOf top b mem (scratchShort b sc) ≡ none → standingOf t ≡ invalid
+    → staleRead (readRefusalOf top b mem (scratchShort b sc)) t w sc out .answer ≡ stales.Shown (w .answer)
 unfolding staleRead
-stale-answer b mem sc statuses.Empty w out h q = let z : _≡_ {A = ℕ} 0 1 = cc in absurd (omega arith)
-stale-answer b mem sc (statuses.Valid last) w out h q = let z : _≡_ {A = ℕ} 0 1 = cc in absurd (omega arith)
-stale-answer b mem sc (statuses.Invalidated i) w out h q = rw h
+stale-answer top b mem sc statuses.Empty w out h q = let z : _≡_ {A = ℕ} 0 1 = cc in absurd (omega arith)
+stale-answer top b mem sc (statuses.Valid last) w out h q = let z : _≡_ {A = ℕ} 0 1 = cc in absurd (omega arith)
+stale-answer top b mem sc (statuses.Invalidated i) w out h q = rw h
 
 -- ---- of a book that follows the ledger, lent the front of its memory
 
-module _ (c : Config) (r : Extent) (s : ℕ) (w : World) (v : View) (f : Follows c r s w v) (n : Extent) where
+module _ (top : ℕ) (c : Config) (r : Extent) (s : ℕ) (w : World) (v : View) (f : Follows c r s w v) (n : Extent) where
   abbrev mem : Memory
   mem = front n (w .memory)
 
@@ -125,22 +125,22 @@ module _ (c : Config) (r : Extent) (s : ℕ) (w : World) (v : View) (f : Follows
   unbroken h = broken-rows (w .book) mem (w .memory) (whole-orders h) ∙ f .stands .sound
 
   -- 3 aside
-  read-own : (short : Bool) → readRefusalOf ceiling (w .book) mem short ≡ readRefusal ceiling (w .book .rules) (extentOf mem) short false
+  read-own : (short : Bool) → readRefusalOf top (w .book) mem short ≡ readRefusal top (w .book .rules) (extentOf mem) short false
   unfolding readRefusal
   read-own short = go (memoryShort (w .book .rules) (extentOf mem) || short) refl
     where
       go : (y : Bool) → (memoryShort (w .book .rules) (extentOf mem) || short) ≡ y
-          → check (overCeiling ceiling (w .book .rules)) LimitAboveCeiling (check (memoryShort (w .book .rules) (extentOf mem) || short) LentTooShort (check (broken (w .book) mem) MalformedBook none))
-          ≡ check (overCeiling ceiling (w .book .rules)) LimitAboveCeiling (check (memoryShort (w .book .rules) (extentOf mem) || short) LentTooShort (check false MalformedBook none))
-      go true p = ap (check (overCeiling ceiling (w .book .rules)) LimitAboveCeiling) (fails _ _ _ p ∙ sym (fails _ _ _ p))
+          → check (overCeiling top (w .book .rules)) LimitAboveCeiling (check (memoryShort (w .book .rules) (extentOf mem) || short) LentTooShort (check (broken (w .book) mem) MalformedBook none))
+          ≡ check (overCeiling top (w .book .rules)) LimitAboveCeiling (check (memoryShort (w .book .rules) (extentOf mem) || short) LentTooShort (check false MalformedBook none))
+      go true p = ap (check (overCeiling top (w .book .rules)) LimitAboveCeiling) (fails _ _ _ p ∙ sym (fails _ _ _ p))
       go false p =
-          ap (λ (t : Bool). check (overCeiling ceiling (w .book .rules)) LimitAboveCeiling (check (memoryShort (w .book .rules) (extentOf mem) || short) LentTooShort (check t MalformedBook none)))
+          ap (λ (t : Bool). check (overCeiling top (w .book .rules)) LimitAboveCeiling (check (memoryShort (w .book .rules) (extentOf mem) || short) LentTooShort (check t MalformedBook none)))
           (unbroken (or-no (memoryShort (w .book .rules) (extentOf mem)) short p .0))
 
-  read-is : (short : Bool) → readRefusalOf ceiling (w .book) mem short ≡ readRefusal ceiling (c .rules) (extentOf mem) short false
-  read-is short = read-own short ∙ ap (λ (x : VenueRules). readRefusal ceiling x (extentOf mem) short false) rules-are
+  read-is : (short : Bool) → readRefusalOf top (w .book) mem short ≡ readRefusal top (c .rules) (extentOf mem) short false
+  read-is short = read-own short ∙ ap (λ (x : VenueRules). readRefusal top x (extentOf mem) short false) rules-are
 
-  view-is : (short : Bool) → viewRefusalOf ceiling (w .book) mem short ≡ viewRefusal ceiling (c .rules) (extentOf mem) short false (v .status)
+  view-is : (short : Bool) → viewRefusalOf top (w .book) mem short ≡ viewRefusal top (c .rules) (extentOf mem) short false (v .status)
   unfolding viewRefusal
   view-is short = rw (read-is short, status-is)
 
@@ -150,21 +150,21 @@ module _ (c : Config) (r : Extent) (s : ℕ) (w : World) (v : View) (f : Follows
   -- ---- invalid
 
   abbrev Away : Bool → Type 0
-  Away short = (e : ViewError) × (viewRefusalOf ceiling (w .book) mem short ≡ some e) × (viewErrorNumber e ≡ invalidNumber (c .rules) (extentOf mem) short)
+  Away short = (e : ViewError) × (viewRefusalOf top (w .book) mem short ≡ some e) × (viewErrorNumber e ≡ invalidNumber top (c .rules) (extentOf mem) short)
 
   away : standingOf (v .status) ≡ invalid → (short : Bool) → Away short
-  away h short = let x = invalid-says (c .rules) (extentOf mem) short (v .status) h in (x .0, view-is short ∙ x .1, x .2)
+  away h short = let x = invalid-says top (c .rules) (extentOf mem) short (v .status) h in (x .0, view-is short ∙ x .1, x .2)
 
   scratch-away : standingOf (v .status) ≡ invalid → (sc : List ℕ)
-      → (e : ViewError) × (viewRefusalOf ceiling (w .book) mem (scratchShort (w .book) sc) ≡ some e) × (viewErrorNumber e ≡ invalidNumber (c .rules) (extentOf mem) (ltb (length sc) (c .rules .«max_orders»)))
-  scratch-away h sc = let x = away h (scratchShort (w .book) sc) in (x .0, x .1, x .2 ∙ ap (invalidNumber (c .rules) (extentOf mem)) (short-is sc))
+      → (e : ViewError) × (viewRefusalOf top (w .book) mem (scratchShort (w .book) sc) ≡ some e) × (viewErrorNumber e ≡ invalidNumber top (c .rules) (extentOf mem) (ltb (length sc) (c .rules .«max_orders»)))
+  scratch-away h sc = let x = away h (scratchShort (w .book) sc) in (x .0, x .1, x .2 ∙ ap (invalidNumber top (c .rules) (extentOf mem)) (short-is sc))
 
   level-away : standingOf (v .status) ≡ invalid → (k : Content) (sc out : List ℕ)
-      → levelTold (readOf ceiling (w .book) mem sc k out .answer) .number ≡ invalidNumber (c .rules) (extentOf mem) (ltb (length sc) (c .rules .«max_orders»))
+      → levelTold (readOf top (w .book) mem sc k out .answer) .number ≡ invalidNumber top (c .rules) (extentOf mem) (ltb (length sc) (c .rules .«max_orders»))
   unfolding levelRead
   level-away h k sc out = let x = scratch-away h sc in rw (x .1) (x .2)
 
-  pub turned-away : standingOf (v .status) ≡ invalid → TurnedAway (c .rules) (w .book) mem
+  pub turned-away : standingOf (v .status) ≡ invalid → TurnedAway top (c .rules) (w .book) mem
   unfolding sequenceOf bestOf auditedOf estimated ownViewed aheadRefusal aheadOf
   turned-away h =
       let x = away h false in
@@ -182,17 +182,17 @@ module _ (c : Config) (r : Extent) (s : ℕ) (w : World) (v : View) (f : Follows
 
   -- ---- lent enough
 
-  module _ (sc : List ℕ) (e : Enough (c .rules) (extentOf mem) (length sc)) where
+  module _ (sc : List ℕ) (e : Enough top (c .rules) (extentOf mem) (length sc)) where
     lent-memory : memoryShort (w .book .rules) (extentOf mem) ≡ false
     lent-memory = ap (λ (x : VenueRules). memoryShort x (extentOf mem)) rules-are ∙ e .memory
 
-    viewed-none : standingOf (v .status) ≡ valid → viewRefusalOf ceiling (w .book) mem (scratchShort (w .book) sc) ≡ none
+    viewed-none : standingOf (v .status) ≡ valid → viewRefusalOf top (w .book) mem (scratchShort (w .book) sc) ≡ none
     viewed-none h =
-        ap (viewRefusalOf ceiling (w .book) mem) (short-is sc) ∙ view-is (ltb (length sc) (c .rules .«max_orders»)) ∙ valid-says (c .rules) (extentOf mem) (length sc) (v .status) h e
+        ap (viewRefusalOf top (w .book) mem) (short-is sc) ∙ view-is (ltb (length sc) (c .rules .«max_orders»)) ∙ valid-says top (c .rules) (extentOf mem) (length sc) (v .status) h e
 
-    read-none : readRefusalOf ceiling (w .book) mem (scratchShort (w .book) sc) ≡ none
+    read-none : readRefusalOf top (w .book) mem (scratchShort (w .book) sc) ≡ none
     read-none =
-        ap (readRefusalOf ceiling (w .book) mem) (short-is sc) ∙ read-is (ltb (length sc) (c .rules .«max_orders»)) ∙ enough-read (c .rules) (extentOf mem) (length sc) e
+        ap (readRefusalOf top (w .book) mem) (short-is sc) ∙ read-is (ltb (length sc) (c .rules .«max_orders»)) ∙ enough-read top (c .rules) (extentOf mem) (length sc) e
 
     abbrev os : List Resting
     os = ordersOf mem (w .book .rows)
@@ -204,7 +204,7 @@ module _ (c : Config) (r : Extent) (s : ℕ) (w : World) (v : View) (f : Follows
     levels-many t = ap (λ (x : List Entry). length (prices t x)) (whole-line lent-memory)
 
     pub queue-answers : standingOf (v .status) ≡ valid → (t : L3Side) (z : ℤ) (out : List ℕ) → queueWords * length (queue t (natOf z) (v .line)) ≤ length out
-        → levelQueue ceiling (w .book) mem sc t z out .answer ≡ levels.Shown (Entries (length (queue t (natOf z) (v .line))))
+        → levelQueue top (w .book) mem sc t z out .answer ≡ levels.Shown (Entries (length (queue t (natOf z) (v .line))))
     queue-answers h t z out k =
         level-answer _ (shown (w .book .rules .«max_orders») (queueContent t (natOf z) os) sc out) sc out (viewed-none h)
         ∙ ap levels.Shown
@@ -212,7 +212,7 @@ module _ (c : Config) (r : Extent) (s : ℕ) (w : World) (v : View) (f : Follows
         (omega (arith, k, queue-many t (natOf z), width-entries Queue (rowsAt t (natOf z) os))))
 
     pub profile-answers : standingOf (v .status) ≡ valid → (t : L3Side) (out : List ℕ) → profileWords * length (prices t (v .line)) ≤ length out
-        → priorityProfile ceiling (w .book) mem sc t out .answer ≡ levels.Shown (Entries (length (prices t (v .line))))
+        → priorityProfile top (w .book) mem sc t out .answer ≡ levels.Shown (Entries (length (prices t (v .line))))
     profile-answers h t out k =
         level-answer _ (shown (w .book .rules .«max_orders») (levelsContent profileWords t os) sc out) sc out (viewed-none h)
         ∙ ap levels.Shown
@@ -220,16 +220,16 @@ module _ (c : Config) (r : Extent) (s : ℕ) (w : World) (v : View) (f : Follows
         (omega (arith, k, levels-many t, length-levels 3 (omega arith) t os (prices t (lineOf os)))))
 
     pub stale-answers : standingOf (v .status) ≡ invalid → (t : L3Side) (out : List ℕ) → l2Words * length (prices t (v .line)) ≤ length out
-        → staleL2 ceiling (w .book) mem sc t out .answer ≡ stales.Shown (Entries (length (prices t (v .line))))
+        → staleL2 top (w .book) mem sc t out .answer ≡ stales.Shown (Entries (length (prices t (v .line))))
     stale-answers h t out k =
-        stale-answer (w .book) mem sc (w .book .status) (shown (w .book .rules .«max_orders») (levelsContent l2Words t os) sc out) out read-none (ap standingOf status-is ∙ h)
+        stale-answer top (w .book) mem sc (w .book .status) (shown (w .book .rules .«max_orders») (levelsContent l2Words t os) sc out) out read-none (ap standingOf status-is ∙ h)
         ∙ ap stales.Shown
         (shows-all (w .book .rules .«max_orders») (levelsContent l2Words t os) sc out _ (levels-many t)
         (omega (arith, k, levels-many t, length-levels 2 (omega arith) t os (prices t (lineOf os)))))
 
-  pub last-answers : standingOf (v .status) ≡ valid → Enough (c .rules) (extentOf mem) (c .rules .«max_orders») → lastSequence ceiling (w .book) mem ≡ sequences.Valid (lastOf (v .status))
+  pub last-answers : standingOf (v .status) ≡ valid → Enough top (c .rules) (extentOf mem) (c .rules .«max_orders») → lastSequence top (w .book) mem ≡ sequences.Valid (lastOf (v .status))
   unfolding sequenceOf
   last-answers h e =
       let z : ltb (c .rules .«max_orders») (c .rules .«max_orders») ≡ false = le-ltb (c .rules .«max_orders») (c .rules .«max_orders») (omega arith) in
-      let q : viewRefusalOf ceiling (w .book) mem false ≡ none = view-is false ∙ (rw z at (valid-says (c .rules) (extentOf mem) (c .rules .«max_orders») (v .status) h e)) in
+      let q : viewRefusalOf top (w .book) mem false ≡ none = view-is false ∙ (rw z at (valid-says top (c .rules) (extentOf mem) (c .rules .«max_orders») (v .status) h e)) in
       rw (q, status-is)

@@ -22,7 +22,7 @@ use Rattle.reconstructor_counts.specs.Counts.{largest, saturated, raisedAt, pla
 use Rattle.reconstructor_segments.specs.declared.Segment.{Segment}
 use Rattle.reconstructor_segments.specs.Segments.{lastSegment}
 use Rattle.reconstructor_state.specs.declared.BookReconstructor.{BookReconstructor}
-use Rattle.reconstructor_state.specs.State.{ceiling, View, Lengths, lengthsOf, lastOf, segmentOf}
+use Rattle.reconstructor_state.specs.State.{View, Lengths, lengthsOf, lastOf, segmentOf}
 use Rattle.reconstructor_state.proofs.Checks.{fails, goes-on, first-fails, first-on}
 use Rattle.reconstructor_checks.specs.StateChecks.{Usable, overCeiling, tooShort}
 use Rattle.reconstructor_plan.specs.Rules.{eventDeed}
@@ -125,49 +125,49 @@ unfolding answered
 answered-counted b mem g m (some a) = refused-counted b mem g m a
 answered-counted b mem g m none = decided-counted b mem m (turnRefusal (b .rules) (lineIn mem (b .rows)) (lastOf (b .status)) m)
 
-module _ (b : BookReconstructor) (mem : Memory) (sg : List Segment) (s : ℕ) (u : Usable ceiling b mem (length sg)) (st : Starts s b sg) where
-  gate-same : (m : L3Message) → gateRefusal ceiling (b .«product_id») (b .rules) (lengthsOf mem sg) false (seen s b mem) m ≡ bookGate ceiling b mem (length sg) (lastSegment sg (b .segments)) m
+module _ (top : ℕ) (b : BookReconstructor) (mem : Memory) (sg : List Segment) (s : ℕ) (u : Usable top b mem (length sg)) (st : Starts s b sg) where
+  gate-same : (m : L3Message) → gateRefusal top (b .«product_id») (b .rules) (lengthsOf mem sg) false (seen s b mem) m ≡ bookGate top b mem (length sg) (lastSegment sg (b .segments)) m
   unfolding gateRefusal
-  gate-same m = first-on _ _ _ _ (own-none b mem sg u) refl ∙ sym (gate-trusted ceiling b mem (length sg) (lastSegment sg (b .segments)) m u)
+  gate-same m = first-on _ _ _ _ (own-none top b mem sg u) refl ∙ sym (gate-trusted top b mem (length sg) (lastSegment sg (b .segments)) m u)
 
-  apply-counted : (m : L3Message) → applied ceiling b mem sg m .book .counts ≡ countedBy (applyPlace (configOf b) (seen s b mem) (lengthsOf mem sg) m) (b .counts)
+  apply-counted : (m : L3Message) → applied top b mem sg m .book .counts ≡ countedBy (applyPlace top (configOf b) (seen s b mem) (lengthsOf mem sg) m) (b .counts)
   unfolding applied appliedTo applyPlace
-  apply-counted m = rw (gate-same m) (answered-counted b mem (lastSegment sg (b .segments)) m (bookGate ceiling b mem (length sg) (lastSegment sg (b .segments)) m))
+  apply-counted m = rw (gate-same m) (answered-counted b mem (lastSegment sg (b .segments)) m (bookGate top b mem (length sg) (lastSegment sg (b .segments)) m))
 
   module _ (h : Handshake) (m : L3Message) where
     abbrev place : Option Counter
-    place = placeIn (configOf b) (seen s b mem) (step (lengthsOf mem sg) h m)
+    place = placeIn top (configOf b) (seen s b mem) (step (lengthsOf mem sg) h m)
 
     other-place : otherSegment h (segmentOf b) (b .segments) ≡ true → place ≡ none
     unfolding placeIn stepRefusal
-    other-place p = rw (first-on _ _ _ _ (own-none b mem sg u) (fails _ _ _ p))
+    other-place p = rw (first-on _ _ _ _ (own-none top b mem sg u) (fails _ _ _ p))
 
     range-place : otherSegment h (segmentOf b) (b .segments) ≡ false → not (eventInRange (m .event)) ≡ true → place ≡ none
     unfolding placeIn stepRefusal
-    range-place p q = rw (first-on _ _ _ _ (own-none b mem sg u) (goes-on _ _ _ _ p (fails _ _ _ q)))
+    range-place p q = rw (first-on _ _ _ _ (own-none top b mem sg u) (goes-on _ _ _ _ p (fails _ _ _ q)))
 
     through-place : otherSegment h (segmentOf b) (b .segments) ≡ false → not (eventInRange (m .event)) ≡ false
-        → place ≡ cond (drops (b .«product_id») s m) (some counters.HandshakeDropped) (applyPlace (configOf b) (seen s b mem) (lengthsOf mem sg) m)
+        → place ≡ cond (drops (b .«product_id») s m) (some counters.HandshakeDropped) (applyPlace top (configOf b) (seen s b mem) (lengthsOf mem sg) m)
     unfolding placeIn stepRefusal
-    through-place p q = rw (first-on _ _ _ _ (own-none b mem sg u) (goes-on _ _ _ _ p (goes-on _ _ _ _ q refl)))
+    through-place p q = rw (first-on _ _ _ _ (own-none top b mem sg u) (goes-on _ _ _ _ p (goes-on _ _ _ _ q refl)))
 
-    step-counted : stepped ceiling h b mem sg m .book .counts ≡ countedBy place (b .counts)
+    step-counted : stepped top h b mem sg m .book .counts ≡ countedBy place (b .counts)
     step-counted = go₁ (otherSegment h (segmentOf b) (b .segments)) refl
       where
         go₃ : (p : otherSegment h (segmentOf b) (b .segments) ≡ false) (q : not (eventInRange (m .event)) ≡ false) (d : Bool)
-            → drops (b .«product_id») s m ≡ d → stepped ceiling h b mem sg m .book .counts ≡ countedBy place (b .counts)
+            → drops (b .«product_id») s m ≡ d → stepped top h b mem sg m .book .counts ≡ countedBy place (b .counts)
         go₃ p q true e =
-            rw (through-place p q, e, dropped-step ceiling h b mem sg m u p q (ap (λ (x : ℕ). drops (b .«product_id») x m) (same-start b mem sg s u st h m p) ∙ e))
+            rw (through-place p q, e, dropped-step top h b mem sg m u p q (ap (λ (x : ℕ). drops (b .«product_id») x m) (same-start top b mem sg s u st h m p) ∙ e))
         go₃ p q false e =
-            rw (through-place p q, e, decided-step ceiling h b mem sg m u p q (ap (λ (x : ℕ). drops (b .«product_id») x m) (same-start b mem sg s u st h m p) ∙ e)) (apply-counted m)
+            rw (through-place p q, e, decided-step top h b mem sg m u p q (ap (λ (x : ℕ). drops (b .«product_id») x m) (same-start top b mem sg s u st h m p) ∙ e)) (apply-counted m)
 
         go₂ : (p : otherSegment h (segmentOf b) (b .segments) ≡ false) (r : Bool) → not (eventInRange (m .event)) ≡ r
-            → stepped ceiling h b mem sg m .book .counts ≡ countedBy place (b .counts)
-        go₂ p true q = rw (range-place p q, out-of-range-step ceiling h b mem sg m u p q)
+            → stepped top h b mem sg m .book .counts ≡ countedBy place (b .counts)
+        go₂ p true q = rw (range-place p q, out-of-range-step top h b mem sg m u p q)
         go₂ p false q = go₃ p q (drops (b .«product_id») s m) refl
 
-        go₁ : (o : Bool) → otherSegment h (segmentOf b) (b .segments) ≡ o → stepped ceiling h b mem sg m .book .counts ≡ countedBy place (b .counts)
-        go₁ true p = rw (other-place p, other-step ceiling h b mem sg m u p)
+        go₁ : (o : Bool) → otherSegment h (segmentOf b) (b .segments) ≡ o → stepped top h b mem sg m .book .counts ≡ countedBy place (b .counts)
+        go₁ true p = rw (other-place p, other-step top h b mem sg m u p)
         go₁ false p = go₂ p (not (eventInRange (m .event))) refl
 
   module _ (bytes : List ℕ) where
@@ -179,32 +179,32 @@ module _ (b : BookReconstructor) (mem : Memory) (sg : List Segment) (s : ℕ) (u
     rejected-counted snapshots.ListFull = refl
     rejected-counted (snapshots.Rejected e) = refl
 
-    boot-counted : bootstrapped ceiling b mem sg bytes .book .counts ≡ countedBy (placeIn (configOf b) (seen s b mem) (bootstrap (lengthsOf mem sg) bytes)) (b .counts)
+    boot-counted : bootstrapped top b mem sg bytes .book .counts ≡ countedBy (placeIn top (configOf b) (seen s b mem) (bootstrap (lengthsOf mem sg) bytes)) (b .counts)
     unfolding placeIn
-    boot-counted = rw (boot-same b mem sg s u st bytes) (go (refusalOf ceiling b mem sg bytes) refl)
+    boot-counted = rw (boot-same top b mem sg s u st bytes) (go (refusalOf top b mem sg bytes) refl)
       where
-        go : (o : Option SnapshotAnswer) → refusalOf ceiling b mem sg bytes ≡ o → bootstrapped ceiling b mem sg bytes .book .counts ≡ countedBy (snapshotPlace o) (b .counts)
-        go (some x) q = ap (λ (p : boot.Parts). p .book .counts) (refused-is ceiling b mem sg bytes x q) ∙ rejected-counted x
-        go none q = ap (λ (p : boot.Parts). p .book .counts) (is-accepted ceiling b mem sg bytes q .is)
+        go : (o : Option SnapshotAnswer) → refusalOf top b mem sg bytes ≡ o → bootstrapped top b mem sg bytes .book .counts ≡ countedBy (snapshotPlace o) (b .counts)
+        go (some x) q = ap (λ (p : boot.Parts). p .book .counts) (refused-is top b mem sg bytes x q) ∙ rejected-counted x
+        go none q = ap (λ (p : boot.Parts). p .book .counts) (is-accepted top b mem sg bytes q .is)
 
 -- ---- lent too little: not counted
 
-module _ (c : Config) (n : Lengths) (v : View) (q : (overCeiling ceiling (c .rules) || tooShort (c .rules) n (v .segments)) ≡ true) where
-  early-apply-place : (m : L3Message) → placeIn c v (apply n m) ≡ none
+module _ (top : ℕ) (c : Config) (n : Lengths) (v : View) (q : (overCeiling top (c .rules) || tooShort (c .rules) n (v .segments)) ≡ true) where
+  early-apply-place : (m : L3Message) → placeIn top c v (apply n m) ≡ none
   unfolding placeIn applyPlace gateRefusal
-  early-apply-place m = let e = early (c .rules) n false (v .segments) q in rw (first-fails _ _ _ _ (e .1))
+  early-apply-place m = let e = early top (c .rules) n false (v .segments) q in rw (first-fails _ _ _ _ (e .1))
 
-  early-step-place : (h : Handshake) (m : L3Message) → placeIn c v (step n h m) ≡ none
+  early-step-place : (h : Handshake) (m : L3Message) → placeIn top c v (step n h m) ≡ none
   unfolding placeIn stepRefusal
-  early-step-place h m = let e = early (c .rules) n false (v .segments) q in rw (first-fails _ _ _ _ (e .1))
+  early-step-place h m = let e = early top (c .rules) n false (v .segments) q in rw (first-fails _ _ _ _ (e .1))
 
-  early-boot-place : (bytes : List ℕ) → placeIn c v (bootstrap n bytes) ≡ none
+  early-boot-place : (bytes : List ℕ) → placeIn top c v (bootstrap n bytes) ≡ none
   unfolding placeIn bootRefusal
-  early-boot-place bytes = let e = early (c .rules) n false (v .segments) q in rw (first-fails _ _ _ _ (e .1))
+  early-boot-place bytes = let e = early top (c .rules) n false (v .segments) q in rw (first-fails _ _ _ _ (e .1))
 
 -- ---- one call of a book that follows the ledger
 
-module _ (c : Config) (r : Extent) (s : ℕ) (w : World) (v : View) (f : Follows c r s w v) (n : Lengths) (fits : Fits r s n) where
+module _ (top : ℕ) (c : Config) (r : Extent) (s : ℕ) (w : World) (v : View) (f : Follows c r s w v) (n : Lengths) (fits : Fits r s n) where
   abbrev mem : Memory
   mem = lentMemory n w
 
@@ -212,75 +212,75 @@ module _ (c : Config) (r : Extent) (s : ℕ) (w : World) (v : View) (f : Follows
   sg = lentSegments n w
 
   abbrev little : Bool
-  little = overCeiling ceiling (c .rules) || tooShort (c .rules) n (v .segments)
+  little = overCeiling top (c .rules) || tooShort (c .rules) n (v .segments)
 
-  apply-counts : (m : L3Message) → perform w (apply n m) .book .counts ≡ countedBy (placeIn c v (apply n m)) (w .book .counts)
+  apply-counts : (m : L3Message) → perform top w (apply n m) .book .counts ≡ countedBy (placeIn top c v (apply n m)) (w .book .counts)
   unfolding perform placeIn
   apply-counts m = go little refl
     where
-      go : (b : Bool) → little ≡ b → applied ceiling (w .book) mem sg m .book .counts ≡ countedBy (applyPlace c v n m) (w .book .counts)
-      go true q = rw (early-apply-place c n v q m, early-applied c r s w v f n fits q m .0)
+      go : (b : Bool) → little ≡ b → applied top (w .book) mem sg m .book .counts ≡ countedBy (applyPlace top c v n m) (w .book .counts)
+      go true q = rw (early-apply-place top c n v q m, early-applied top c r s w v f n fits q m .0)
       go false q =
-          rw (f .stands .config, lengths-are c r s w v f n fits, same-view c r s w v f n fits q) at
-          (apply-counted (w .book) mem sg (v .startSeq) (usable-now c r s w v f n fits q) (starts-now c r s w v f n fits q) m)
+          rw (f .stands .config, lengths-are top c r s w v f n fits, same-view top c r s w v f n fits q) at
+          (apply-counted top (w .book) mem sg (v .startSeq) (usable-now top c r s w v f n fits q) (starts-now top c r s w v f n fits q) m)
 
-  step-counts : (h : Handshake) (m : L3Message) → perform w (step n h m) .book .counts ≡ countedBy (placeIn c v (step n h m)) (w .book .counts)
+  step-counts : (h : Handshake) (m : L3Message) → perform top w (step n h m) .book .counts ≡ countedBy (placeIn top c v (step n h m)) (w .book .counts)
   unfolding perform
   step-counts h m = go little refl
     where
-      go : (b : Bool) → little ≡ b → stepped ceiling h (w .book) mem sg m .book .counts ≡ countedBy (placeIn c v (step n h m)) (w .book .counts)
+      go : (b : Bool) → little ≡ b → stepped top h (w .book) mem sg m .book .counts ≡ countedBy (placeIn top c v (step n h m)) (w .book .counts)
       go true q =
-          let e = early-own c r s w v f n fits q in
-          rw (early-step-place c n v q h m, unusable-step ceiling h (w .book) mem sg m (e .0) (e .1))
+          let e = early-own top c r s w v f n fits q in
+          rw (early-step-place top c n v q h m, unusable-step top h (w .book) mem sg m (e .0) (e .1))
       go false q =
-          rw (f .stands .config, lengths-are c r s w v f n fits, same-view c r s w v f n fits q) at
-          (step-counted (w .book) mem sg (v .startSeq) (usable-now c r s w v f n fits q) (starts-now c r s w v f n fits q) h m)
+          rw (f .stands .config, lengths-are top c r s w v f n fits, same-view top c r s w v f n fits q) at
+          (step-counted top (w .book) mem sg (v .startSeq) (usable-now top c r s w v f n fits q) (starts-now top c r s w v f n fits q) h m)
 
-  boot-counts : (bytes : List ℕ) → perform w (bootstrap n bytes) .book .counts ≡ countedBy (placeIn c v (bootstrap n bytes)) (w .book .counts)
+  boot-counts : (bytes : List ℕ) → perform top w (bootstrap n bytes) .book .counts ≡ countedBy (placeIn top c v (bootstrap n bytes)) (w .book .counts)
   unfolding perform
   boot-counts bytes = go little refl
     where
-      go : (b : Bool) → little ≡ b → bootstrapped ceiling (w .book) mem sg bytes .book .counts ≡ countedBy (placeIn c v (bootstrap n bytes)) (w .book .counts)
+      go : (b : Bool) → little ≡ b → bootstrapped top (w .book) mem sg bytes .book .counts ≡ countedBy (placeIn top c v (bootstrap n bytes)) (w .book .counts)
       go true q =
-          let e = early-own c r s w v f n fits q in
-          rw (early-boot-place c n v q bytes, refused-is ceiling (w .book) mem sg bytes (snapshots.Unusable (e .0)) (early-refusal (w .book) mem sg bytes (e .0) (e .1)))
+          let e = early-own top c r s w v f n fits q in
+          rw (early-boot-place top c n v q bytes, refused-is top (w .book) mem sg bytes (snapshots.Unusable (e .0)) (early-refusal top (w .book) mem sg bytes (e .0) (e .1)))
       go false q =
-          rw (f .stands .config, lengths-are c r s w v f n fits, same-view c r s w v f n fits q) at
-          (boot-counted (w .book) mem sg (v .startSeq) (usable-now c r s w v f n fits q) (starts-now c r s w v f n fits q) bytes)
+          rw (f .stands .config, lengths-are top c r s w v f n fits, same-view top c r s w v f n fits q) at
+          (boot-counted top (w .book) mem sg (v .startSeq) (usable-now top c r s w v f n fits q) (starts-now top c r s w v f n fits q) bytes)
 
 -- ---- any list of calls
 
-module _ (c : Config) (r : Extent) (s : ℕ) where
+module _ (top : ℕ) (c : Config) (r : Extent) (s : ℕ) where
   -- what was counted, this call, and those after it
-  more : (a : Counter → ℕ) (w : World) (v : View) (k : Call) (ks : List Call) → run (perform w k) ks .book .counts ≡ countsBy (λ (i : Counter). upTo ((a i + hit i (placeIn c v k)) + timesIn c (feedView c v k) ks i))
-      → run w (k ∷ ks) .book .counts ≡ countsBy (λ (i : Counter). upTo (a i + timesIn c v (k ∷ ks) i))
+  more : (a : Counter → ℕ) (w : World) (v : View) (k : Call) (ks : List Call) → run top (perform top w k) ks .book .counts ≡ countsBy (λ (i : Counter). upTo ((a i + hit i (placeIn top c v k)) + timesIn top c (feedView top c v k) ks i))
+      → run top w (k ∷ ks) .book .counts ≡ countsBy (λ (i : Counter). upTo (a i + timesIn top c v (k ∷ ks) i))
   more a w v k ks e =
-      e ∙ counts-same _ _ (λ i. let z : (a i + hit i (placeIn c v k)) + timesIn c (feedView c v k) ks i ≡ a i + (hit i (placeIn c v k) + timesIn c (feedView c v k) ks i) = omega arith in ap upTo z)
+      e ∙ counts-same _ _ (λ i. let z : (a i + hit i (placeIn top c v k)) + timesIn top c (feedView top c v k) ks i ≡ a i + (hit i (placeIn top c v k) + timesIn top c (feedView top c v k) ks i) = omega arith in ap upTo z)
 
-  past-read : (a : Counter → ℕ) (w : World) (v : View) (q : Asked) (ks : List Call) → run w ks .book .counts ≡ countsBy (λ (i : Counter). upTo (a i + timesIn c v ks i))
-      → run w (read q ∷ ks) .book .counts ≡ countsBy (λ (i : Counter). upTo (a i + timesIn c v (read q ∷ ks) i))
+  past-read : (a : Counter → ℕ) (w : World) (v : View) (q : Asked) (ks : List Call) → run top w ks .book .counts ≡ countsBy (λ (i : Counter). upTo (a i + timesIn top c v ks i))
+      → run top w (read q ∷ ks) .book .counts ≡ countsBy (λ (i : Counter). upTo (a i + timesIn top c v (read q ∷ ks) i))
   unfolding perform feedView placeIn
-  past-read a w v q ks e = e ∙ counts-same _ _ (λ i. let z : a i + timesIn c v ks i ≡ a i + (0 + timesIn c v ks i) = omega arith in ap upTo z)
+  past-read a w v q ks e = e ∙ counts-same _ _ (λ i. let z : a i + timesIn top c v ks i ≡ a i + (0 + timesIn top c v ks i) = omega arith in ap upTo z)
 
   run-counts : (a : Counter → ℕ) (w : World) (v : View) (ks : List Call) → Follows c r s w v → Lendable r s ks → w .book .counts ≡ countsBy (λ (i : Counter). upTo (a i))
-      → run w ks .book .counts ≡ countsBy (λ (i : Counter). upTo (a i + timesIn c v ks i))
+      → run top w ks .book .counts ≡ countsBy (λ (i : Counter). upTo (a i + timesIn top c v ks i))
   run-counts a w v [] f l e = e ∙ counts-same _ _ (λ i. let z : a i ≡ a i + 0 = omega arith in ap upTo z)
   run-counts a w v (bootstrap n bytes ∷ ks) f l e =
       more a w v (bootstrap n bytes) ks
-      (run-counts (λ (i : Counter). a i + hit i (placeIn c v (bootstrap n bytes))) (perform w (bootstrap n bytes)) (feedView c v (bootstrap n bytes)) ks (boot-follows c r s w v f n (l .0) bytes) (l .1)
-      (boot-counts c r s w v f n (l .0) bytes ∙ counted-up a (placeIn c v (bootstrap n bytes)) (w .book .counts) e))
+      (run-counts (λ (i : Counter). a i + hit i (placeIn top c v (bootstrap n bytes))) (perform top w (bootstrap n bytes)) (feedView top c v (bootstrap n bytes)) ks (boot-follows top c r s w v f n (l .0) bytes) (l .1)
+      (boot-counts top c r s w v f n (l .0) bytes ∙ counted-up a (placeIn top c v (bootstrap n bytes)) (w .book .counts) e))
   run-counts a w v (apply n m ∷ ks) f l e =
       more a w v (apply n m) ks
-      (run-counts (λ (i : Counter). a i + hit i (placeIn c v (apply n m))) (perform w (apply n m)) (feedView c v (apply n m)) ks (apply-follows c r s w v f n (l .0) m) (l .1)
-      (apply-counts c r s w v f n (l .0) m ∙ counted-up a (placeIn c v (apply n m)) (w .book .counts) e))
+      (run-counts (λ (i : Counter). a i + hit i (placeIn top c v (apply n m))) (perform top w (apply n m)) (feedView top c v (apply n m)) ks (apply-follows top c r s w v f n (l .0) m) (l .1)
+      (apply-counts top c r s w v f n (l .0) m ∙ counted-up a (placeIn top c v (apply n m)) (w .book .counts) e))
   run-counts a w v (step n h m ∷ ks) f l e =
       more a w v (step n h m) ks
-      (run-counts (λ (i : Counter). a i + hit i (placeIn c v (step n h m))) (perform w (step n h m)) (feedView c v (step n h m)) ks (step-follows c r s w v f n (l .0) h m) (l .1)
-      (step-counts c r s w v f n (l .0) h m ∙ counted-up a (placeIn c v (step n h m)) (w .book .counts) e))
+      (run-counts (λ (i : Counter). a i + hit i (placeIn top c v (step n h m))) (perform top w (step n h m)) (feedView top c v (step n h m)) ks (step-follows top c r s w v f n (l .0) h m) (l .1)
+      (step-counts top c r s w v f n (l .0) h m ∙ counted-up a (placeIn top c v (step n h m)) (w .book .counts) e))
   run-counts a w v (read q ∷ ks) f l e = past-read a w v q ks (run-counts a w v ks f l e)
 
-pub counts-are : (c : Config) (mem : Memory) (sg : List Segment) (ks : List Call) → Lendable (extentOf mem) (length sg) ks
-    → run (freshWorld c mem sg) ks .book .counts ≡ countsBy (λ (i : Counter). upTo (timesIn c blank ks i))
-counts-are c mem sg ks l =
-    run-counts c (extentOf mem) (length sg) (λ i. 0) (freshWorld c mem sg) blank ks (fresh-follows c mem sg) l refl
-    ∙ counts-same _ _ (λ i. let z : 0 + timesIn c blank ks i ≡ timesIn c blank ks i = omega arith in ap upTo z)
+pub counts-are : (top : ℕ) (c : Config) (mem : Memory) (sg : List Segment) (ks : List Call) → Lendable (extentOf mem) (length sg) ks
+    → run top (freshWorld c mem sg) ks .book .counts ≡ countsBy (λ (i : Counter). upTo (timesIn top c blank ks i))
+counts-are top c mem sg ks l =
+    run-counts top c (extentOf mem) (length sg) (λ i. 0) (freshWorld c mem sg) blank ks (fresh-follows c mem sg) l refl
+    ∙ counts-same _ _ (λ i. let z : 0 + timesIn top c blank ks i ≡ timesIn top c blank ks i = omega arith in ap upTo z)

@@ -128,20 +128,20 @@ pub record Worked : Type 0 where
   -- the premise is met
   lendable : Lendable (extentOf words) (length records) (before ++ (after ++ recovered))
   -- A's 2 and C's 5
-  before-volume : volumeAt Buy 10 (run (freshWorld config words records) before) ≡ 7
-  before-standing : standingAt (run (freshWorld config words records) before) ≡ valid
+  before-volume : volumeAt Buy 10 (run ceiling (freshWorld config words records) before) ≡ 7
+  before-standing : standingAt (run ceiling (freshWorld config words records) before) ≡ valid
   -- stale, and the same
-  after-volume : volumeAt Buy 10 (run (freshWorld config words records) (before ++ after)) ≡ 7
-  after-standing : standingAt (run (freshWorld config words records) (before ++ after)) ≡ invalid
+  after-volume : volumeAt Buy 10 (run ceiling (freshWorld config words records) (before ++ after)) ≡ 7
+  after-standing : standingAt (run ceiling (freshWorld config words records) (before ++ after)) ≡ invalid
   -- A's 4, less 1
-  end-volume : volumeAt Buy 10 (run (freshWorld config words records) (before ++ (after ++ recovered))) ≡ 3
-  end-figure : feedAll config fresh (before ++ (after ++ recovered)) .figure Buy 10 ≡ 3
+  end-volume : volumeAt Buy 10 (run ceiling (freshWorld config words records) (before ++ (after ++ recovered))) ≡ 3
+  end-figure : feedAll ceiling config fresh (before ++ (after ++ recovered)) .figure Buy 10 ≡ 3
   -- a read of the one and a stale read of the other say so; another read of it is turned away
-  before-read : levelQueue ceiling (run (freshWorld config words records) before .book) (lentMemory (lent 24 2) (run (freshWorld config words records) before)) (5 ∷ 5 ∷ 5 ∷ []) Buy (pos 10) (replicate 10 4) .answer ≡ levels.Shown (Entries 2)
-  after-stale : staleL2 ceiling (run (freshWorld config words records) (before ++ after) .book) (lentMemory (lent 24 2) (run (freshWorld config words records) (before ++ after))) (5 ∷ 5 ∷ 5 ∷ []) Buy (replicate 3 4) .out ≡ 10 ∷ 7 ∷ 4 ∷ []
+  before-read : levelQueue ceiling (run ceiling (freshWorld config words records) before .book) (lentMemory (lent 24 2) (run ceiling (freshWorld config words records) before)) (5 ∷ 5 ∷ 5 ∷ []) Buy (pos 10) (replicate 10 4) .answer ≡ levels.Shown (Entries 2)
+  after-stale : staleL2 ceiling (run ceiling (freshWorld config words records) (before ++ after) .book) (lentMemory (lent 24 2) (run ceiling (freshWorld config words records) (before ++ after))) (5 ∷ 5 ∷ 5 ∷ []) Buy (replicate 3 4) .out ≡ 10 ∷ 7 ∷ 4 ∷ []
   -- what counts
-  counts : kept config (before ++ (after ++ recovered)) ≡ recovered
-  rule : SumRule config words records (before ++ (after ++ recovered))
+  counts : kept ceiling config (before ++ (after ++ recovered)) ≡ recovered
+  rule : SumRule ceiling config words records (before ++ (after ++ recovered))
 
 fits : Lendable (extentOf words) 2 (before ++ (after ++ recovered))
 fits = ((omega arith, omega arith), ((omega arith, omega arith), ((omega arith, omega arith), ((omega arith, omega arith), ((omega arith, omega arith), ((omega arith, omega arith), ((omega arith, omega arith), ((omega arith, omega arith), ((omega arith, omega arith), ((omega arith, omega arith), tt))))))))))
@@ -160,5 +160,5 @@ worked =
       after-stale = refl;
       end-figure = refl;
       counts = refl;
-      rule = sum-rule config words records (before ++ (after ++ recovered)) fits;
+      rule = sum-rule ceiling (omega arith) config words records (before ++ (after ++ recovered)) fits;
     }

@@ -25,7 +25,7 @@ use Rattle.reconstructor_segments.specs.Segments.{lastSegment}
 use Rattle.reconstructor_segments.proofs.Last.{last-front}
 use Rattle.reconstructor_state.specs.declared.VenueRules.{VenueRules}
 use Rattle.reconstructor_state.specs.declared.BookReconstructor.{BookReconstructor}
-use Rattle.reconstructor_state.specs.State.{ceiling, View, Lengths, lengthsOf, newBook}
+use Rattle.reconstructor_state.specs.State.{View, Lengths, lengthsOf, newBook}
 use Rattle.reconstructor_state.proofs.Checks.{fails, goes-on, first-fails}
 use Rattle.reconstructor_checks.specs.StateChecks.{Usable, broken, overCeiling, memoryShort, tooShort, stateRefusal, bookRefusal}
 use Rattle.reconstructor_checks.proofs.StateChecks.{sound, memory-room, usable-none}
@@ -46,9 +46,9 @@ use Rattle.ledger.proofs.Stands.{seen, Starts, Stands, rows-front, appl
 use Rattle.ledger.proofs.Left.{Left, apply-left, step-left, boot-left}
 
 -- the views of all calls, one after the other
-abbrev pub viewAll : Config → View → List Call → View
-viewAll c v [] = v
-viewAll c v (k ∷ ks) = viewAll c (feedView c v k) ks
+abbrev pub viewAll : (top : ℕ) → Config → View → List Call → View
+viewAll top c v [] = v
+viewAll top c v (k ∷ ks) = viewAll top c (feedView top c v k) ks
 
 pub record Follows (c : Config) (r : Extent) (s : ℕ) (w : World) (v : View) : Type 0 where
   pub stands : Stands c (w .book) (w .memory) (w .segments) v
@@ -63,31 +63,31 @@ some-none a h = let z : _≡_ {A = ℕ} 0 1 = cc in omega (arith, z)
 
 -- ---- number 1 or 2 is said of the rules, the lengths and the number of segments alone
 
-pub early : (v : VenueRules) (n : Lengths) (three : Bool) (k : ℕ) → (overCeiling ceiling v || tooShort v n k) ≡ true
-    → (e : StateError) × (stateRefusal ceiling v n three k ≡ some e) × (e ≡ MalformedBook → ⊥)
+pub early : (top : ℕ) (v : VenueRules) (n : Lengths) (three : Bool) (k : ℕ) → (overCeiling top v || tooShort v n k) ≡ true
+    → (e : StateError) × (stateRefusal top v n three k ≡ some e) × (e ≡ MalformedBook → ⊥)
 unfolding stateRefusal
-early v n three k h = go (overCeiling ceiling v) refl h
+early top v n three k h = go (overCeiling top v) refl h
   where
-    go : (b : Bool) → overCeiling ceiling v ≡ b → (b || tooShort v n k) ≡ true → (e : StateError) × (stateRefusal ceiling v n three k ≡ some e) × (e ≡ MalformedBook → ⊥)
+    go : (b : Bool) → overCeiling top v ≡ b → (b || tooShort v n k) ≡ true → (e : StateError) × (stateRefusal top v n three k ≡ some e) × (e ≡ MalformedBook → ⊥)
     go true p q = (LimitAboveCeiling, fails _ _ _ p, λ x. let z : _≡_ {A = ℕ} 0 1 = cc in omega (arith, z))
     go false p q = (LentTooShort, goes-on _ _ _ _ p (fails _ _ _ q), λ x. let z : _≡_ {A = ℕ} 0 1 = cc in omega (arith, z))
 
-pub early-apply : (c : Config) (n : Lengths) (w : View) (m : L3Message) → (overCeiling ceiling (c .rules) || tooShort (c .rules) n (w .segments)) ≡ true → applyOutcome c n false w m ≡ refused
+pub early-apply : (top : ℕ) (c : Config) (n : Lengths) (w : View) (m : L3Message) → (overCeiling top (c .rules) || tooShort (c .rules) n (w .segments)) ≡ true → applyOutcome top c n false w m ≡ refused
 unfolding applyOutcome gateRefusal settle
-early-apply c n w m h = let e = early (c .rules) n false (w .segments) h in rw (first-fails _ _ _ _ (e .1))
+early-apply top c n w m h = let e = early top (c .rules) n false (w .segments) h in rw (first-fails _ _ _ _ (e .1))
 
-pub early-step : (c : Config) (n : Lengths) (w : View) (h : Handshake) (m : L3Message) → (overCeiling ceiling (c .rules) || tooShort (c .rules) n (w .segments)) ≡ true → stepOutcome c n false w h m ≡ refused
+pub early-step : (top : ℕ) (c : Config) (n : Lengths) (w : View) (h : Handshake) (m : L3Message) → (overCeiling top (c .rules) || tooShort (c .rules) n (w .segments)) ≡ true → stepOutcome top c n false w h m ≡ refused
 unfolding stepOutcome stepRefusal stepSettle
-early-step c n w h m q = let e = early (c .rules) n false (w .segments) q in rw (first-fails _ _ _ _ (e .1))
+early-step top c n w h m q = let e = early top (c .rules) n false (w .segments) q in rw (first-fails _ _ _ _ (e .1))
 
-pub early-boot : (c : Config) (n : Lengths) (w : View) (bytes : List ℕ) → (overCeiling ceiling (c .rules) || tooShort (c .rules) n (w .segments)) ≡ true
-    → viewBoot (bootOutcome c n w bytes) (readSnapshot bytes) bytes w ≡ w
+pub early-boot : (top : ℕ) (c : Config) (n : Lengths) (w : View) (bytes : List ℕ) → (overCeiling top (c .rules) || tooShort (c .rules) n (w .segments)) ≡ true
+    → viewBoot (bootOutcome top c n w bytes) (readSnapshot bytes) bytes w ≡ w
 unfolding bootRefusal
-early-boot c n w bytes h = let e = early (c .rules) n false (w .segments) h in rw (first-fails _ _ _ _ (e .1))
+early-boot top c n w bytes h = let e = early top (c .rules) n false (w .segments) h in rw (first-fails _ _ _ _ (e .1))
 
-pub early-refusal : (b : BookReconstructor) (mem : Memory) (sg : List Segment) (bytes : List ℕ) (e : StateError) → bookRefusal ceiling b mem (length sg) ≡ some e → refusalOf ceiling b mem sg bytes ≡ some (snapshots.Unusable e)
+pub early-refusal : (top : ℕ) (b : BookReconstructor) (mem : Memory) (sg : List Segment) (bytes : List ℕ) (e : StateError) → bookRefusal top b mem (length sg) ≡ some e → refusalOf top b mem sg bytes ≡ some (snapshots.Unusable e)
 unfolding bootRefusal
-early-refusal b mem sg bytes e h = first-fails _ _ _ _ h
+early-refusal top b mem sg bytes e h = first-fails _ _ _ _ h
 
 -- ---- a call and the memory beyond what it is lent
 
@@ -99,7 +99,7 @@ pub broken-rows : (b : BookReconstructor) (mem mem′ : Memory) → ordersOf mem
 unfolding broken
 broken-rows b mem mem′ e = rw e
 
-module _ (c : Config) (r : Extent) (s : ℕ) (w : World) (v : View) (f : Follows c r s w v) (n : Lengths) (fits : Fits r s n) where
+module _ (top : ℕ) (c : Config) (r : Extent) (s : ℕ) (w : World) (v : View) (f : Follows c r s w v) (n : Lengths) (fits : Fits r s n) where
   abbrev mem : Memory
   mem = lentMemory n w
 
@@ -137,10 +137,10 @@ module _ (c : Config) (r : Extent) (s : ℕ) (w : World) (v : View) (f : Follows
   same-whole : Follows c r s (back n w (w .book) mem sg) v
   same-whole = rw (take-append-drop (n .memory .rows) (w .memory .rows), take-append-drop (n .segments) (w .segments)) f
 
-  module _ (h : (overCeiling ceiling (c .rules) || tooShort (c .rules) n (v .segments)) ≡ false) where
+  module _ (h : (overCeiling top (c .rules) || tooShort (c .rules) n (v .segments)) ≡ false) where
     same-rows : ordersOf (w .memory) (w .book .rows) ≡ ordersOf mem (w .book .rows)
     same-rows =
-        let k = or-no (overCeiling ceiling (c .rules)) (tooShort (c .rules) n (v .segments)) h in
+        let k = or-no (overCeiling top (c .rules)) (tooShort (c .rules) n (v .segments)) h in
         let d = or-no (memoryShort (c .rules) (n .memory)) (ltb (n .segments) (v .segments)) (k .1) in
         let m : w .book .rows ≤ w .book .rules .«max_orders» = sound (w .book) (w .memory) (f .stands .sound) .few in
         let e : w .book .rules .«max_orders» ≡ c .rules .«max_orders» = ap (λ (x : Config). x .rules .«max_orders») (f .stands .config) in
@@ -155,18 +155,18 @@ module _ (c : Config) (r : Extent) (s : ℕ) (w : World) (v : View) (f : Follows
 
     few-segments : w .book .segments ≤ n .segments
     few-segments =
-        let k = or-no (overCeiling ceiling (c .rules)) (tooShort (c .rules) n (v .segments)) h in
+        let k = or-no (overCeiling top (c .rules)) (tooShort (c .rules) n (v .segments)) h in
         let d = or-no (memoryShort (c .rules) (n .memory)) (ltb (n .segments) (v .segments)) (k .1) in
         let e : w .book .segments ≡ v .segments = ap (λ (x : View). x .segments) (f .stands .view) in
         omega (arith, e, ltb-false (n .segments) (v .segments) (d .1))
 
-    pub usable-now : Usable ceiling (w .book) mem (length sg)
+    pub usable-now : Usable top (w .book) mem (length sg)
     usable-now =
-        let k = or-no (overCeiling ceiling (c .rules)) (tooShort (c .rules) n (v .segments)) h in
+        let k = or-no (overCeiling top (c .rules)) (tooShort (c .rules) n (v .segments)) h in
         let e : w .book .rules ≡ c .rules = ap (λ (x : Config). x .rules) (f .stands .config) in
         let g : w .book .segments ≡ v .segments = ap (λ (x : View). x .segments) (f .stands .view) in
         record {
-          within = ap (overCeiling ceiling) e ∙ k .0;
+          within = ap (overCeiling top) e ∙ k .0;
           lent = ap₂ _||_ (ap₂ memoryShort e lent-memory) (ap₂ ltb lent-segments g) ∙ k .1;
           sound = broken-rows (w .book) mem (w .memory) (sym same-rows) ∙ f .stands .sound;
         }
@@ -178,98 +178,98 @@ module _ (c : Config) (r : Extent) (s : ℕ) (w : World) (v : View) (f : Follows
         ∙ f .stands .start z
 
   -- lent too little: 1 or 2, and nothing moves
-  pub early-own : (overCeiling ceiling (c .rules) || tooShort (c .rules) n (v .segments)) ≡ true
-      → (e : StateError) × (bookRefusal ceiling (w .book) mem (length sg) ≡ some e) × (e ≡ MalformedBook → ⊥)
+  pub early-own : (overCeiling top (c .rules) || tooShort (c .rules) n (v .segments)) ≡ true
+      → (e : StateError) × (bookRefusal top (w .book) mem (length sg) ≡ some e) × (e ≡ MalformedBook → ⊥)
   early-own h =
       let e : w .book .rules ≡ c .rules = ap (λ (x : Config). x .rules) (f .stands .config) in
       let g : w .book .segments ≡ v .segments = ap (λ (x : View). x .segments) (f .stands .view) in
-      early (w .book .rules) (lengthsOf mem sg) (broken (w .book) mem) (w .book .segments)
-      (ap₂ _||_ (ap (overCeiling ceiling) e) (ap₂ _||_ (ap₂ memoryShort e lent-memory) (ap₂ ltb lent-segments g)) ∙ h)
+      early top (w .book .rules) (lengthsOf mem sg) (broken (w .book) mem) (w .book .segments)
+      (ap₂ _||_ (ap (overCeiling top) e) (ap₂ _||_ (ap₂ memoryShort e lent-memory) (ap₂ ltb lent-segments g)) ∙ h)
 
-  pub early-applied : (overCeiling ceiling (c .rules) || tooShort (c .rules) n (v .segments)) ≡ true → (m : L3Message)
-      → (applied ceiling (w .book) mem sg m .book ≡ w .book) × (applied ceiling (w .book) mem sg m .memory ≡ mem) × (applied ceiling (w .book) mem sg m .segments ≡ sg)
+  pub early-applied : (overCeiling top (c .rules) || tooShort (c .rules) n (v .segments)) ≡ true → (m : L3Message)
+      → (applied top (w .book) mem sg m .book ≡ w .book) × (applied top (w .book) mem sg m .memory ≡ mem) × (applied top (w .book) mem sg m .segments ≡ sg)
   early-applied h m =
       let e = early-own h in
-      let l = refusal-leaves ceiling (w .book) mem sg m (answers.Unusable (e .0)) (gate-stops ceiling (w .book) mem (length sg) (lastSegment sg (w .book .segments)) m (e .0) (e .1)) in
+      let l = refusal-leaves top (w .book) mem sg m (answers.Unusable (e .0)) (gate-stops top (w .book) mem (length sg) (lastSegment sg (w .book .segments)) m (e .0) (e .1)) in
       (l .1, l .2, l .3)
 
   -- "3 never arises here"
-  pub never-three : bookRefusal ceiling (w .book) mem (length sg) ≡ some MalformedBook → ⊥
-  never-three x = go (overCeiling ceiling (c .rules) || tooShort (c .rules) n (v .segments)) refl
+  pub never-three : bookRefusal top (w .book) mem (length sg) ≡ some MalformedBook → ⊥
+  never-three x = go (overCeiling top (c .rules) || tooShort (c .rules) n (v .segments)) refl
     where
-      go : (b : Bool) → (overCeiling ceiling (c .rules) || tooShort (c .rules) n (v .segments)) ≡ b → ⊥
+      go : (b : Bool) → (overCeiling top (c .rules) || tooShort (c .rules) n (v .segments)) ≡ b → ⊥
       go true h = let e = early-own h in e .2 (some-same (e .0) MalformedBook (sym (e .1) ∙ x))
-      go false h = some-none MalformedBook (sym x ∙ usable-none ceiling (w .book) mem (length sg) (usable-now h))
+      go false h = some-none MalformedBook (sym x ∙ usable-none top (w .book) mem (length sg) (usable-now h))
 
-  pub apply-follows : (m : L3Message) → Follows c r s (perform w (apply n m)) (feedView c v (apply n m))
+  pub apply-follows : (m : L3Message) → Follows c r s (perform top w (apply n m)) (feedView top c v (apply n m))
   unfolding perform feedView
-  apply-follows m = go (overCeiling ceiling (c .rules) || tooShort (c .rules) n (v .segments)) refl
+  apply-follows m = go (overCeiling top (c .rules) || tooShort (c .rules) n (v .segments)) refl
     where
-      go : (b : Bool) → (overCeiling ceiling (c .rules) || tooShort (c .rules) n (v .segments)) ≡ b
-          → Follows c r s (back n w (applied ceiling (w .book) mem sg m .book) (applied ceiling (w .book) mem sg m .memory) (applied ceiling (w .book) mem sg m .segments)) (viewBy (c .rules) m (applyOutcome c n false v m) v)
-      go true h = rw (early-apply c n v m h, early-applied h m .0, early-applied h m .1, early-applied h m .2) same-whole
+      go : (b : Bool) → (overCeiling top (c .rules) || tooShort (c .rules) n (v .segments)) ≡ b
+          → Follows c r s (back n w (applied top (w .book) mem sg m .book) (applied top (w .book) mem sg m .memory) (applied top (w .book) mem sg m .segments)) (viewBy (c .rules) m (applyOutcome top c n false v m) v)
+      go true h = rw (early-apply top c n v m h, early-applied h m .0, early-applied h m .1, early-applied h m .2) same-whole
       go false h =
           let t₁ =
           subst
           (λ (x : Config).
-          Stands x (applied ceiling (w .book) mem sg m .book) (applied ceiling (w .book) mem sg m .memory) (applied ceiling (w .book) mem sg m .segments)
-          (viewBy (x .rules) m (applyOutcome x (lengthsOf mem sg) false (seen (v .startSeq) (w .book) mem) m) (seen (v .startSeq) (w .book) mem)))
+          Stands x (applied top (w .book) mem sg m .book) (applied top (w .book) mem sg m .memory) (applied top (w .book) mem sg m .segments)
+          (viewBy (x .rules) m (applyOutcome top x (lengthsOf mem sg) false (seen (v .startSeq) (w .book) mem) m) (seen (v .startSeq) (w .book) mem)))
           (f .stands .config)
-          (apply-stands (w .book) mem sg (v .startSeq) (usable-now h) (starts-now h) m) in
+          (apply-stands top (w .book) mem sg (v .startSeq) (usable-now h) (starts-now h) m) in
           let t = rw (lengths-are, same-view h) at t₁ in
-          kept-whole _ _ _ _ t (apply-left (w .book) mem sg (usable-now h) m)
+          kept-whole _ _ _ _ t (apply-left top (w .book) mem sg (usable-now h) m)
 
-  pub step-follows : (h : Handshake) (m : L3Message) → Follows c r s (perform w (step n h m)) (feedView c v (step n h m))
+  pub step-follows : (h : Handshake) (m : L3Message) → Follows c r s (perform top w (step n h m)) (feedView top c v (step n h m))
   unfolding perform feedView
-  step-follows h m = go (overCeiling ceiling (c .rules) || tooShort (c .rules) n (v .segments)) refl
+  step-follows h m = go (overCeiling top (c .rules) || tooShort (c .rules) n (v .segments)) refl
     where
-      go : (b : Bool) → (overCeiling ceiling (c .rules) || tooShort (c .rules) n (v .segments)) ≡ b
-          → Follows c r s (back n w (stepped ceiling h (w .book) mem sg m .book) (stepped ceiling h (w .book) mem sg m .memory) (stepped ceiling h (w .book) mem sg m .segments)) (viewBy (c .rules) m (stepOutcome c n false v h m) v)
+      go : (b : Bool) → (overCeiling top (c .rules) || tooShort (c .rules) n (v .segments)) ≡ b
+          → Follows c r s (back n w (stepped top h (w .book) mem sg m .book) (stepped top h (w .book) mem sg m .memory) (stepped top h (w .book) mem sg m .segments)) (viewBy (c .rules) m (stepOutcome top c n false v h m) v)
       go true q =
           let e = early-own q in
-          rw (early-step c n v h m q, unusable-step ceiling h (w .book) mem sg m (e .0) (e .1)) same-whole
+          rw (early-step top c n v h m q, unusable-step top h (w .book) mem sg m (e .0) (e .1)) same-whole
       go false q =
           let t₁ =
           subst
           (λ (x : Config).
-          Stands x (stepped ceiling h (w .book) mem sg m .book) (stepped ceiling h (w .book) mem sg m .memory) (stepped ceiling h (w .book) mem sg m .segments)
-          (viewBy (x .rules) m (stepOutcome x (lengthsOf mem sg) false (seen (v .startSeq) (w .book) mem) h m) (seen (v .startSeq) (w .book) mem)))
+          Stands x (stepped top h (w .book) mem sg m .book) (stepped top h (w .book) mem sg m .memory) (stepped top h (w .book) mem sg m .segments)
+          (viewBy (x .rules) m (stepOutcome top x (lengthsOf mem sg) false (seen (v .startSeq) (w .book) mem) h m) (seen (v .startSeq) (w .book) mem)))
           (f .stands .config)
-          (step-stands (w .book) mem sg (v .startSeq) (usable-now q) (starts-now q) h m) in
+          (step-stands top (w .book) mem sg (v .startSeq) (usable-now q) (starts-now q) h m) in
           let t = rw (lengths-are, same-view q) at t₁ in
-          kept-whole _ _ _ _ t (step-left (w .book) mem sg (usable-now q) m h)
+          kept-whole _ _ _ _ t (step-left top (w .book) mem sg (usable-now q) m h)
 
-  pub boot-follows : (bytes : List ℕ) → Follows c r s (perform w (bootstrap n bytes)) (feedView c v (bootstrap n bytes))
+  pub boot-follows : (bytes : List ℕ) → Follows c r s (perform top w (bootstrap n bytes)) (feedView top c v (bootstrap n bytes))
   unfolding perform feedView
-  boot-follows bytes = go (overCeiling ceiling (c .rules) || tooShort (c .rules) n (v .segments)) refl
+  boot-follows bytes = go (overCeiling top (c .rules) || tooShort (c .rules) n (v .segments)) refl
     where
-      go : (b : Bool) → (overCeiling ceiling (c .rules) || tooShort (c .rules) n (v .segments)) ≡ b
+      go : (b : Bool) → (overCeiling top (c .rules) || tooShort (c .rules) n (v .segments)) ≡ b
           → Follows c r s
-          (back n w (bootstrapped ceiling (w .book) mem sg bytes .book) (bootstrapped ceiling (w .book) mem sg bytes .memory) (bootstrapped ceiling (w .book) mem sg bytes .segments))
-          (viewBoot (bootOutcome c n v bytes) (readSnapshot bytes) bytes v)
+          (back n w (bootstrapped top (w .book) mem sg bytes .book) (bootstrapped top (w .book) mem sg bytes .memory) (bootstrapped top (w .book) mem sg bytes .segments))
+          (viewBoot (bootOutcome top c n v bytes) (readSnapshot bytes) bytes v)
       go true q =
           let e = early-own q in
-          rw (early-boot c n v bytes q, refused-is ceiling (w .book) mem sg bytes (snapshots.Unusable (e .0)) (early-refusal (w .book) mem sg bytes (e .0) (e .1))) same-whole
+          rw (early-boot top c n v bytes q, refused-is top (w .book) mem sg bytes (snapshots.Unusable (e .0)) (early-refusal top (w .book) mem sg bytes (e .0) (e .1))) same-whole
       go false q =
           let t₁ =
           subst
           (λ (x : Config).
-          Stands x (bootstrapped ceiling (w .book) mem sg bytes .book) (bootstrapped ceiling (w .book) mem sg bytes .memory) (bootstrapped ceiling (w .book) mem sg bytes .segments)
-          (viewBoot (bootOutcome x (lengthsOf mem sg) (seen (v .startSeq) (w .book) mem) bytes) (readSnapshot bytes) bytes (seen (v .startSeq) (w .book) mem)))
+          Stands x (bootstrapped top (w .book) mem sg bytes .book) (bootstrapped top (w .book) mem sg bytes .memory) (bootstrapped top (w .book) mem sg bytes .segments)
+          (viewBoot (bootOutcome top x (lengthsOf mem sg) (seen (v .startSeq) (w .book) mem) bytes) (readSnapshot bytes) bytes (seen (v .startSeq) (w .book) mem)))
           (f .stands .config)
-          (boot-stands (w .book) mem sg (v .startSeq) (usable-now q) (starts-now q) bytes) in
+          (boot-stands top (w .book) mem sg (v .startSeq) (usable-now q) (starts-now q) bytes) in
           let t = rw (lengths-are, same-view q) at t₁ in
-          kept-whole _ _ _ _ t (boot-left (w .book) mem sg (usable-now q) bytes)
+          kept-whole _ _ _ _ t (boot-left top (w .book) mem sg (usable-now q) bytes)
 
 -- ---- any list of calls
 
-module _ (c : Config) (r : Extent) (s : ℕ) where
-  pub follow-all : (w : World) (v : View) (ks : List Call) → Follows c r s w v → Lendable r s ks → Follows c r s (run w ks) (viewAll c v ks)
+module _ (top : ℕ) (c : Config) (r : Extent) (s : ℕ) where
+  pub follow-all : (w : World) (v : View) (ks : List Call) → Follows c r s w v → Lendable r s ks → Follows c r s (run top w ks) (viewAll top c v ks)
   unfolding perform feedView
   follow-all w v [] f l = f
-  follow-all w v (bootstrap n bytes ∷ ks) f l = follow-all (perform w (bootstrap n bytes)) (feedView c v (bootstrap n bytes)) ks (boot-follows c r s w v f n (l .0) bytes) (l .1)
-  follow-all w v (apply n m ∷ ks) f l = follow-all (perform w (apply n m)) (feedView c v (apply n m)) ks (apply-follows c r s w v f n (l .0) m) (l .1)
-  follow-all w v (step n h m ∷ ks) f l = follow-all (perform w (step n h m)) (feedView c v (step n h m)) ks (step-follows c r s w v f n (l .0) h m) (l .1)
+  follow-all w v (bootstrap n bytes ∷ ks) f l = follow-all (perform top w (bootstrap n bytes)) (feedView top c v (bootstrap n bytes)) ks (boot-follows top c r s w v f n (l .0) bytes) (l .1)
+  follow-all w v (apply n m ∷ ks) f l = follow-all (perform top w (apply n m)) (feedView top c v (apply n m)) ks (apply-follows top c r s w v f n (l .0) m) (l .1)
+  follow-all w v (step n h m ∷ ks) f l = follow-all (perform top w (step n h m)) (feedView top c v (step n h m)) ks (step-follows top c r s w v f n (l .0) h m) (l .1)
   follow-all w v (read q ∷ ks) f l = follow-all w v ks f l
 
 pub fresh-follows : (c : Config) (mem : Memory) (sg : List Segment) → Follows c (extentOf mem) (length sg) (freshWorld c mem sg) blank
@@ -286,5 +286,5 @@ fresh-follows c mem sg =
         or-both _ _ (le-ltb (c .rules .«max_orders») 0 (omega arith))
         (or-both _ _ (not-broken (c .rules .«max_orders») (c .rules .«max_levels») [] (empty-formed (c .rules .«max_orders») (c .rules .«max_levels»))) refl)
 
-pub line-is : (c : Config) (mem : Memory) (sg : List Segment) (ks : List Call) → Lendable (extentOf mem) (length sg) ks → lineAt (run (freshWorld c mem sg) ks) ≡ viewAll c blank ks .line
-line-is c mem sg ks l = ap (λ (x : View). x .line) (follow-all c (extentOf mem) (length sg) (freshWorld c mem sg) blank ks (fresh-follows c mem sg) l .stands .view)
+pub line-is : (top : ℕ) (c : Config) (mem : Memory) (sg : List Segment) (ks : List Call) → Lendable (extentOf mem) (length sg) ks → lineAt (run top (freshWorld c mem sg) ks) ≡ viewAll top c blank ks .line
+line-is top c mem sg ks l = ap (λ (x : View). x .line) (follow-all top c (extentOf mem) (length sg) (freshWorld c mem sg) blank ks (fresh-follows c mem sg) l .stands .view)

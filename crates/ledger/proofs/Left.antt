@@ -18,7 +18,7 @@ use Rattle.reconstructor_segments.specs.declared.Segment.{Segment}
 use Rattle.reconstructor_segments.specs.Segments.{lastSegment, relast, started}
 use Rattle.reconstructor_segments.proofs.Last.{length-relast}
 use Rattle.reconstructor_state.specs.declared.BookReconstructor.{BookReconstructor}
-use Rattle.reconstructor_state.specs.State.{ceiling, lastOf, segmentOf}
+use Rattle.reconstructor_state.specs.State.{lastOf, segmentOf}
 use Rattle.reconstructor_checks.specs.StateChecks.{Usable, broken}
 use Rattle.reconstructor_checks.proofs.StateChecks.{sound, rows-lent, segments-lent}
 use Rattle.reconstructor_plan.specs.Rules.{effect, eventDeed}
@@ -39,8 +39,8 @@ pub record Left (mem : Memory) (sg : List Segment) (b : BookReconstructor) (afte
   pub room : 8 * b .rows ≤ length (after .rows)
   pub listed : b .segments ≤ length tg
 
-left-same : (b c : BookReconstructor) (mem : Memory) (sg : List Segment) → Usable ceiling b mem (length sg) → c .rows ≡ b .rows → c .segments ≡ b .segments → Left mem sg c mem sg
-left-same b c mem sg u e q =
+left-same : (top : ℕ) (b c : BookReconstructor) (mem : Memory) (sg : List Segment) → Usable top b mem (length sg) → c .rows ≡ b .rows → c .segments ≡ b .segments → Left mem sg c mem sg
+left-same top b c mem sg u e q =
     record {
       rows = refl;
       segments = refl;
@@ -48,7 +48,7 @@ left-same b c mem sg u e q =
       listed = omega (arith, q, segments-lent b mem (length sg) (u .lent));
     }
 
-module _ (b : BookReconstructor) (mem : Memory) (sg : List Segment) (u : Usable ceiling b mem (length sg)) (m : L3Message) where
+module _ (top : ℕ) (b : BookReconstructor) (mem : Memory) (sg : List Segment) (u : Usable top b mem (length sg)) (m : L3Message) where
   rows-size : (t : Option InvalidationKind) → decided b mem (lastOf (b .status)) m t .book .rows ≤ b .rules .«max_orders»
       → length (decided b mem (lastOf (b .status)) m t .memory .rows) ≡ length (mem .rows)
   unfolding decided acceptedCore acceptedReply invalidatedReply eventDeed
@@ -71,16 +71,16 @@ module _ (b : BookReconstructor) (mem : Memory) (sg : List Segment) (u : Usable 
       let e : decided b mem (lastOf (b .status)) m t .book .rules ≡ b .rules = same-rules t in
       rows-size t (rw e at (sound (decided b mem (lastOf (b .status)) m t .book) (decided b mem (lastOf (b .status)) m t .memory) h .few))
 
-  pub apply-left : Left mem sg (applied ceiling b mem sg m .book) (applied ceiling b mem sg m .memory) (applied ceiling b mem sg m .segments)
+  pub apply-left : Left mem sg (applied top b mem sg m .book) (applied top b mem sg m .memory) (applied top b mem sg m .segments)
   unfolding applied appliedTo
   apply-left =
       let g : Segment = lastSegment sg (b .segments) in
-      let k = usable-kept ceiling b mem (length sg) u g m in
-      let z = sizes g (bookGate ceiling b mem (length sg) g m) (k .sound) in
-      let y = length-relast sg (b .segments) (appliedTo ceiling b mem (length sg) g m .segment) in
-      let l = rows-lent (appliedTo ceiling b mem (length sg) g m .book) (appliedTo ceiling b mem (length sg) g m .memory) (length sg) (k .lent) in
-      let f = sound (appliedTo ceiling b mem (length sg) g m .book) (appliedTo ceiling b mem (length sg) g m .memory) (k .sound) .few in
-      let s = segments-lent (appliedTo ceiling b mem (length sg) g m .book) (appliedTo ceiling b mem (length sg) g m .memory) (length sg) (k .lent) in
+      let k = usable-kept top b mem (length sg) u g m in
+      let z = sizes g (bookGate top b mem (length sg) g m) (k .sound) in
+      let y = length-relast sg (b .segments) (appliedTo top b mem (length sg) g m .segment) in
+      let l = rows-lent (appliedTo top b mem (length sg) g m .book) (appliedTo top b mem (length sg) g m .memory) (length sg) (k .lent) in
+      let f = sound (appliedTo top b mem (length sg) g m .book) (appliedTo top b mem (length sg) g m .memory) (k .sound) .few in
+      let s = segments-lent (appliedTo top b mem (length sg) g m .book) (appliedTo top b mem (length sg) g m .memory) (length sg) (k .lent) in
       record { rows = z; segments = y; room = omega (arith, l, f); listed = omega (arith, s, y) }
 
   -- ---- a handshake step
@@ -89,31 +89,31 @@ module _ (b : BookReconstructor) (mem : Memory) (sg : List Segment) (u : Usable 
     abbrev StepLeft : StepParts → Type 0
     StepLeft p = Left mem sg (p .book) (p .memory) (p .segments)
 
-    pub step-left : StepLeft (stepped ceiling h b mem sg m)
+    pub step-left : StepLeft (stepped top h b mem sg m)
     step-left = go₁ (otherSegment h (segmentOf b) (b .segments)) refl
       where
         go₃ : (p : otherSegment h (segmentOf b) (b .segments) ≡ false) (q : not (eventInRange (m .event)) ≡ false) (d : Bool)
-            → drops (b .«product_id») (lastSegment sg (b .segments) .«start_seq») m ≡ d → StepLeft (stepped ceiling h b mem sg m)
-        go₃ p q true e = rw (dropped-step ceiling h b mem sg m u p q e) (left-same b _ mem sg u refl refl)
-        go₃ p q false e = rw (decided-step ceiling h b mem sg m u p q e) apply-left
+            → drops (b .«product_id») (lastSegment sg (b .segments) .«start_seq») m ≡ d → StepLeft (stepped top h b mem sg m)
+        go₃ p q true e = rw (dropped-step top h b mem sg m u p q e) (left-same top b _ mem sg u refl refl)
+        go₃ p q false e = rw (decided-step top h b mem sg m u p q e) apply-left
 
-        go₂ : (p : otherSegment h (segmentOf b) (b .segments) ≡ false) (r : Bool) → not (eventInRange (m .event)) ≡ r → StepLeft (stepped ceiling h b mem sg m)
-        go₂ p true q = rw (out-of-range-step ceiling h b mem sg m u p q) (left-same b b mem sg u refl refl)
+        go₂ : (p : otherSegment h (segmentOf b) (b .segments) ≡ false) (r : Bool) → not (eventInRange (m .event)) ≡ r → StepLeft (stepped top h b mem sg m)
+        go₂ p true q = rw (out-of-range-step top h b mem sg m u p q) (left-same top b b mem sg u refl refl)
         go₂ p false q = go₃ p q (drops (b .«product_id») (lastSegment sg (b .segments) .«start_seq») m) refl
 
-        go₁ : (o : Bool) → otherSegment h (segmentOf b) (b .segments) ≡ o → StepLeft (stepped ceiling h b mem sg m)
-        go₁ true p = rw (other-step ceiling h b mem sg m u p) (left-same b b mem sg u refl refl)
+        go₁ : (o : Bool) → otherSegment h (segmentOf b) (b .segments) ≡ o → StepLeft (stepped top h b mem sg m)
+        go₁ true p = rw (other-step top h b mem sg m u p) (left-same top b b mem sg u refl refl)
         go₁ false p = go₂ p (not (eventInRange (m .event))) refl
 
 -- ---- a snapshot
 
-module _ (b : BookReconstructor) (mem : Memory) (sg : List Segment) (u : Usable ceiling b mem (length sg)) (bytes : List ℕ) where
+module _ (top : ℕ) (b : BookReconstructor) (mem : Memory) (sg : List Segment) (u : Usable top b mem (length sg)) (bytes : List ℕ) where
   abbrev BootLeft : SnapshotParts → Type 0
   BootLeft p = Left mem sg (p .book) (p .memory) (p .segments)
 
-  accepted-left : refusalOf ceiling b mem sg bytes ≡ none → BootLeft (bootstrapped ceiling b mem sg bytes)
+  accepted-left : refusalOf top b mem sg bytes ≡ none → BootLeft (bootstrapped top b mem sg bytes)
   accepted-left q =
-      let a = is-accepted ceiling b mem sg bytes q in
+      let a = is-accepted top b mem sg bytes q in
       let t = a .snapshot .sequence in
       let n : length (map (snapshotRow t) (snapshotLine (a .snapshot) bytes)) ≡ length (snapshotLine (a .snapshot) bytes) = length-map (snapshotLine (a .snapshot) bytes) (snapshotRow t) in
       let f = sound b mem (u .sound) .few in
@@ -123,12 +123,12 @@ module _ (b : BookReconstructor) (mem : Memory) (sg : List Segment) (u : Usable 
       let l = length-stored (mem .rows) (b .rows) (map (snapshotRow t) (snapshotLine (a .snapshot) bytes)) (omega (arith, f, r)) (omega (arith, n, a .fits .few, r)) in
       rw (a .is) (record { rows = l; segments = d ∙ c; room = omega (arith, l, a .fits .few, r); listed = omega (arith, c, d, a .room) })
 
-  pub boot-left : BootLeft (bootstrapped ceiling b mem sg bytes)
-  boot-left = go (refusalOf ceiling b mem sg bytes) refl
+  pub boot-left : BootLeft (bootstrapped top b mem sg bytes)
+  boot-left = go (refusalOf top b mem sg bytes) refl
     where
-      go : (o : Option SnapshotAnswer) → refusalOf ceiling b mem sg bytes ≡ o → BootLeft (bootstrapped ceiling b mem sg bytes)
+      go : (o : Option SnapshotAnswer) → refusalOf top b mem sg bytes ≡ o → BootLeft (bootstrapped top b mem sg bytes)
       go (some x) q =
-          let k = refused-keeps ceiling b mem sg bytes x q in
-          let l = left-same b (bootstrapped ceiling b mem sg bytes .book) mem sg u (k .count) (k .listed) in
+          let k = refused-keeps top b mem sg bytes x q in
+          let l = left-same top b (bootstrapped top b mem sg bytes .book) mem sg u (k .count) (k .listed) in
           rw (k .memory, k .segments) l
       go none q = accepted-left q

@@ -19,7 +19,7 @@ use Rattle.book.specs.Line.{Entry}
 use Rattle.book.specs.Memory.{lineBy}
 use Rattle.reconstructor_state.specs.declared.VenueRules.{VenueRules}
 use Rattle.reconstructor_state.specs.declared.Status.{Status}
-use Rattle.reconstructor_state.specs.State.{ceiling, View, Lengths, lastOf}
+use Rattle.reconstructor_state.specs.State.{View, Lengths, lastOf}
 use Rattle.reconstructor_state.proofs.Checks.{passed, goes-on, first-passed, first-on}
 use Rattle.reconstructor_checks.specs.StateChecks.{memoryShort, stateRefusal}
 use Rattle.reconstructor_plan.specs.Rules.{effect}
@@ -32,9 +32,9 @@ use Rattle.ledger.specs.Sum.{numbered}
 use Rattle.ledger.proofs.Accept.{in-turn, step-applies}
 use Rattle.ledger.proofs.Follow.{viewAll}
 
-pub view-append : (c : Config) (v : View) (a b : List Call) → viewAll c v (a ++ b) ≡ viewAll c (viewAll c v a) b
-view-append c v [] b = refl
-view-append c v (k ∷ a) b = view-append c (feedView c v k) a b
+pub view-append : (top : ℕ) (c : Config) (v : View) (a b : List Call) → viewAll top c v (a ++ b) ≡ viewAll top c (viewAll top c v a) b
+view-append top c v [] b = refl
+view-append top c v (k ∷ a) b = view-append top c (feedView top c v k) a b
 
 -- the view of the book so far, and that of the fresh one
 pub record Repeats (v w : View) : Type 0 where
@@ -44,9 +44,9 @@ pub record Repeats (v w : View) : Type 0 where
   pub up : statusRefusal (v .status) ≡ none → statusRefusal (w .status) ≡ none
 
 -- lent the same, with no more segments
-state-again : (r : VenueRules) (n : Lengths) (s t : ℕ) → t ≤ s → stateRefusal ceiling r n false s ≡ none → stateRefusal ceiling r n false t ≡ none
+state-again : (top : ℕ) (r : VenueRules) (n : Lengths) (s t : ℕ) → t ≤ s → stateRefusal top r n false s ≡ none → stateRefusal top r n false t ≡ none
 unfolding stateRefusal
-state-again r n s t h q =
+state-again top r n s t h q =
     let q₁ = passed _ _ _ q in
     let q₂ = passed _ _ _ (q₁ .1) in
     let d = or-no (memoryShort r (n .memory)) (ltb (n .segments) s) (q₂ .0) in
@@ -55,16 +55,16 @@ state-again r n s t h q =
     (goes-on _ _ _ _ refl refl))
 
 -- 2 not said: the list has the segments
-listed-most : (r : VenueRules) (n : Lengths) (s : ℕ) → stateRefusal ceiling r n false s ≡ none → s ≤ n .segments
+listed-most : (top : ℕ) (r : VenueRules) (n : Lengths) (s : ℕ) → stateRefusal top r n false s ≡ none → s ≤ n .segments
 unfolding stateRefusal
-listed-most r n s q =
+listed-most top r n s q =
     let d = or-no (memoryShort r (n .memory)) (ltb (n .segments) s) (passed _ _ _ (passed _ _ _ q .1) .0) in
     ltb-false (n .segments) s (d .1)
 
-outcome : (c : Config) (n : Lengths) (w : View) (m : L3Message) → gateRefusal ceiling (c .product) (c .rules) n false w m ≡ none
-    → turnRefusal (c .rules) (w .line) (lastOf (w .status)) m ≡ none → applyOutcome c n false w m ≡ accepted
+outcome : (top : ℕ) (c : Config) (n : Lengths) (w : View) (m : L3Message) → gateRefusal top (c .product) (c .rules) n false w m ≡ none
+    → turnRefusal (c .rules) (w .line) (lastOf (w .status)) m ≡ none → applyOutcome top c n false w m ≡ accepted
 unfolding applyOutcome settle
-outcome c n w m p q = rw (p, q)
+outcome top c n w m p q = rw (p, q)
 
 pub admit-status : (p : ProductId) (s : Status) (m : L3Message) → admitRefusal p s m ≡ none → statusRefusal s ≡ none
 unfolding admitRefusal
@@ -77,24 +77,24 @@ admit-again p s t m q h =
     let h₂ = passed _ _ _ (h₁ .1) in
     goes-on _ _ _ _ (h₁ .0) (goes-on _ _ _ _ (h₂ .0) q)
 
-module _ (c : Config) (n : Lengths) (v w : View) (r : Repeats v w) (m : L3Message) where
-  gate-again : gateRefusal ceiling (c .product) (c .rules) n false v m ≡ none → (statusRefusal (v .status) ≡ none) × (gateRefusal ceiling (c .product) (c .rules) n false w m ≡ none)
+module _ (top : ℕ) (c : Config) (n : Lengths) (v w : View) (r : Repeats v w) (m : L3Message) where
+  gate-again : gateRefusal top (c .product) (c .rules) n false v m ≡ none → (statusRefusal (v .status) ≡ none) × (gateRefusal top (c .product) (c .rules) n false w m ≡ none)
   unfolding gateRefusal
   gate-again h =
       let q = first-passed _ _ _ h in
       let s = admit-status (c .product) (v .status) m (q .1) in
-      (s, first-on _ _ _ _ (state-again (c .rules) n (v .segments) (w .segments) (r .fewer) (q .0)) (admit-again (c .product) (v .status) (w .status) m (r .up s) (q .1)))
+      (s, first-on _ _ _ _ (state-again top (c .rules) n (v .segments) (w .segments) (r .fewer) (q .0)) (admit-again (c .product) (v .status) (w .status) m (r .up s) (q .1)))
 
-  apply-again : applyOutcome c n false v m ≡ accepted → Repeats (viewBy (c .rules) m accepted v) (feedView c w (apply n m))
+  apply-again : applyOutcome top c n false v m ≡ accepted → Repeats (viewBy (c .rules) m accepted v) (feedView top c w (apply n m))
   unfolding feedView
   apply-again h =
-      let q = in-turn c n false v m h in
+      let q = in-turn top c n false v m h in
       let g = gate-again (q .0) in
       let t : turnRefusal (c .rules) (w .line) (lastOf (w .status)) m ≡ none = rw (r .line, r .last) (q .1) in
-      let o : applyOutcome c n false w m ≡ accepted = outcome c n w m (g .1) t in
+      let o : applyOutcome top c n false w m ≡ accepted = outcome top c n w m (g .1) t in
       rw o (record { line = ap (λ (l : List Entry). lineBy (effect (c .rules) l (m .sequence) (m .event)) l) (r .line); last = refl; fewer = r .fewer; up = λ _. refl })
 
-module _ (c : Config) (n : Lengths) (v : View) (bytes : List ℕ) where
+module _ (top : ℕ) (c : Config) (n : Lengths) (v : View) (bytes : List ℕ) where
   piece-again : (s : ReadSnapshot) → v .segments ≤ n .segments → pieceRefusal (c .product) (c .rules) n v s bytes ≡ none → pieceRefusal (c .product) (c .rules) n blank s bytes ≡ none
   unfolding acceptRefusal
   piece-again (pieces.Refused e) f h = let z : _≡_ {A = ℕ} 0 1 = cc in absurd (omega arith)
@@ -103,53 +103,53 @@ module _ (c : Config) (n : Lengths) (v : View) (bytes : List ℕ) where
       let d : n .segments ≡ v .segments → ⊥ = eqb-false (n .segments) (v .segments) (k .0) in
       goes-on _ _ _ _ (ne-eqb (n .segments) 0 (λ z. d (omega arith))) (k .1)
 
-  boot-again : bootOutcome c n v bytes ≡ none → bootOutcome c n blank bytes ≡ none
+  boot-again : bootOutcome top c n v bytes ≡ none → bootOutcome top c n blank bytes ≡ none
   unfolding bootRefusal
   boot-again h =
       let q = first-passed _ _ _ h in
-      first-on _ _ _ _ (state-again (c .rules) n (v .segments) 0 (omega arith) (q .0)) (piece-again (readSnapshot bytes) (listed-most (c .rules) n (v .segments) (q .0)) (q .1))
+      first-on _ _ _ _ (state-again top (c .rules) n (v .segments) 0 (omega arith) (q .0)) (piece-again (readSnapshot bytes) (listed-most top (c .rules) n (v .segments) (q .0)) (q .1))
 
 -- the fresh book has any number: an `apply` and a `bootstrap` do not go by it
-apply-numbered : (c : Config) (k : ℕ) (v : View) (n : Lengths) (m : L3Message) → feedView (numbered c k) v (apply n m) ≡ feedView c v (apply n m)
+apply-numbered : (top : ℕ) (c : Config) (k : ℕ) (v : View) (n : Lengths) (m : L3Message) → feedView top (numbered c k) v (apply n m) ≡ feedView top c v (apply n m)
 unfolding feedView applyOutcome
-apply-numbered c k v n m = refl
+apply-numbered top c k v n m = refl
 
-boot-numbered : (c : Config) (k : ℕ) (v : View) (n : Lengths) (bytes : List ℕ) → feedView (numbered c k) v (bootstrap n bytes) ≡ feedView c v (bootstrap n bytes)
+boot-numbered : (top : ℕ) (c : Config) (k : ℕ) (v : View) (n : Lengths) (bytes : List ℕ) → feedView top (numbered c k) v (bootstrap n bytes) ≡ feedView top c v (bootstrap n bytes)
 unfolding feedView
-boot-numbered c k v n bytes = refl
+boot-numbered top c k v n bytes = refl
 
-module _ (c : Config) (k : ℕ) where
-  by-repeats : (n : Lengths) (m : L3Message) (v : View) (ks : List Call) (o : Outcome) → (o ≡ accepted → applyOutcome c n false v m ≡ accepted)
-      → Repeats v (viewAll (numbered c k) blank ks) → Repeats (viewBy (c .rules) m o v) (viewAll (numbered c k) blank (keptBy o ks (apply n m)))
+module _ (top : ℕ) (c : Config) (k : ℕ) where
+  by-repeats : (n : Lengths) (m : L3Message) (v : View) (ks : List Call) (o : Outcome) → (o ≡ accepted → applyOutcome top c n false v m ≡ accepted)
+      → Repeats v (viewAll top (numbered c k) blank ks) → Repeats (viewBy (c .rules) m o v) (viewAll top (numbered c k) blank (keptBy o ks (apply n m)))
   by-repeats n m v ks refused h r = r
   by-repeats n m v ks (invalidates i) h r =
       record { line = r .line; last = r .last; fewer = r .fewer; up = λ z. let y : _≡_ {A = ℕ} 0 1 = cc in absurd (omega arith) }
   by-repeats n m v ks dropped h r = r
   by-repeats n m v ks accepted h r =
-      rw (view-append (numbered c k) blank ks (apply n m ∷ []), apply-numbered c k (viewAll (numbered c k) blank ks) n m) (apply-again c n v (viewAll (numbered c k) blank ks) r m (h refl))
+      rw (view-append top (numbered c k) blank ks (apply n m ∷ []), apply-numbered top c k (viewAll top (numbered c k) blank ks) n m) (apply-again top c n v (viewAll top (numbered c k) blank ks) r m (h refl))
 
-  boot-first : (n : Lengths) (v : View) (bytes : List ℕ) (x : L3Snapshot) → readSnapshot bytes ≡ pieces.Snapshot x → bootOutcome c n v bytes ≡ none
-      → Repeats (snapView x bytes v) (feedView c blank (bootstrap n bytes))
+  boot-first : (n : Lengths) (v : View) (bytes : List ℕ) (x : L3Snapshot) → readSnapshot bytes ≡ pieces.Snapshot x → bootOutcome top c n v bytes ≡ none
+      → Repeats (snapView x bytes v) (feedView top c blank (bootstrap n bytes))
   unfolding feedView
-  boot-first n v bytes x e h = rw (boot-again c n v bytes h, e) (record { line = refl; last = refl; fewer = omega arith; up = λ _. refl })
+  boot-first n v bytes x e h = rw (boot-again top c n v bytes h, e) (record { line = refl; last = refl; fewer = omega arith; up = λ _. refl })
 
   boot-repeats : (n : Lengths) (v : View) (bytes : List ℕ) (ks : List Call) (o : Option SnapshotAnswer) (s : ReadSnapshot) → readSnapshot bytes ≡ s
-      → (o ≡ none → bootOutcome c n v bytes ≡ none) → Repeats v (viewAll (numbered c k) blank ks)
-      → Repeats (viewBoot o s bytes v) (viewAll (numbered c k) blank (keptBoot o s ks (bootstrap n bytes)))
+      → (o ≡ none → bootOutcome top c n v bytes ≡ none) → Repeats v (viewAll top (numbered c k) blank ks)
+      → Repeats (viewBoot o s bytes v) (viewAll top (numbered c k) blank (keptBoot o s ks (bootstrap n bytes)))
   boot-repeats n v bytes ks (some a) s e h r = r
   boot-repeats n v bytes ks none (pieces.Refused x) e h r = r
-  boot-repeats n v bytes ks none (pieces.Snapshot x) e h r = rw (boot-numbered c k blank n bytes) (boot-first n v bytes x e (h refl))
+  boot-repeats n v bytes ks none (pieces.Snapshot x) e h r = rw (boot-numbered top c k blank n bytes) (boot-first n v bytes x e (h refl))
 
-  repeat-step : (v : View) (ks : List Call) (x : Call) → Repeats v (viewAll (numbered c k) blank ks) → Repeats (feedView c v x) (viewAll (numbered c k) blank (keptAfter c v ks x))
+  repeat-step : (v : View) (ks : List Call) (x : Call) → Repeats v (viewAll top (numbered c k) blank ks) → Repeats (feedView top c v x) (viewAll top (numbered c k) blank (keptAfter top c v ks x))
   unfolding feedView keptAfter
-  repeat-step v ks (bootstrap n bytes) r = boot-repeats n v bytes ks (bootOutcome c n v bytes) (readSnapshot bytes) refl (λ h. h) r
+  repeat-step v ks (bootstrap n bytes) r = boot-repeats n v bytes ks (bootOutcome top c n v bytes) (readSnapshot bytes) refl (λ h. h) r
   repeat-step v ks (apply n m) r = by-repeats n m v ks _ (λ h. h) r
-  repeat-step v ks (step n h m) r = by-repeats n m v ks _ (step-applies c n false v h m) r
+  repeat-step v ks (step n h m) r = by-repeats n m v ks _ (step-applies top c n false v h m) r
   repeat-step v ks (read q) r = r
 
-  repeats : (v : View) (ks rest : List Call) → Repeats v (viewAll (numbered c k) blank ks) → Repeats (viewAll c v rest) (viewAll (numbered c k) blank (keptAll c v ks rest))
+  repeats : (v : View) (ks rest : List Call) → Repeats v (viewAll top (numbered c k) blank ks) → Repeats (viewAll top c v rest) (viewAll top (numbered c k) blank (keptAll top c v ks rest))
   repeats v ks [] r = r
-  repeats v ks (x ∷ rest) r = repeats (feedView c v x) (keptAfter c v ks x) rest (repeat-step v ks x r)
+  repeats v ks (x ∷ rest) r = repeats (feedView top c v x) (keptAfter top c v ks x) rest (repeat-step v ks x r)
 
-  pub all-repeats : (ks : List Call) → Repeats (viewAll c blank ks) (viewAll (numbered c k) blank (kept c ks))
+  pub all-repeats : (ks : List Call) → Repeats (viewAll top c blank ks) (viewAll top (numbered c k) blank (kept top c ks))
   all-repeats ks = repeats blank [] ks (record { line = refl; last = refl; fewer = omega arith; up = λ h. h })

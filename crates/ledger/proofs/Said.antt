@@ -26,7 +26,6 @@ use Rattle.reconstructor_state.specs.declared.Status.{Status}
 use Rattle.reconstructor_state.specs.declared.Status.the-variants as statuses
 use Rattle.reconstructor_answers.specs.declared.StateError.{StateError}
 use Rattle.reconstructor_view.specs.declared.ViewError.{ViewError}
-use Rattle.reconstructor_state.specs.State.{ceiling}
 use Rattle.reconstructor_checks.proofs.StateChecks.{sound, memory-room}
 use Rattle.reconstructor_view.specs.ValueReads.{readRefusalOf, viewRefusalOf}
 use Rattle.reconstructor_view.proofs.Readable.{Readable, readable, valid-read}
@@ -58,8 +57,8 @@ first-words c out after k w t e =
     ap (take (w * k)) (t .words) ∙ take-at (c .words) (drop (length (c .words)) out) (w * k) (e ∙ ap (λ (x : ℕ). w * x) (sym (t .many)))
 
 -- a read that is not turned away, lent the front of the memory, sees the orders
-module _ (b : BookReconstructor) (mem : Memory) (n : Extent) (short : Bool) where
-  same-orders : Readable ceiling b (front n mem) short → ordersOf (front n mem) (b .rows) ≡ ordersOf mem (b .rows)
+module _ (top : ℕ) (b : BookReconstructor) (mem : Memory) (n : Extent) (short : Bool) where
+  same-orders : Readable top b (front n mem) short → ordersOf (front n mem) (b .rows) ≡ ordersOf mem (b .rows)
   same-orders r =
       let f = sound b (front n mem) (r .trusted .sound) .few in
       let l = memory-room (b .rules) (front n mem) (r .trusted .room) in
@@ -80,41 +79,41 @@ stale-shown none statuses.Empty w sc out k h = let z : _≡_ {A = ℕ} 0 1 = cc 
 stale-shown none (statuses.Valid last) w sc out k h = let z : _≡_ {A = ℕ} 0 1 = cc in absurd (omega arith)
 stale-shown none (statuses.Invalidated i) w sc out k h = (refl, cc, refl)
 
-module _ (b : BookReconstructor) (mem : Memory) (n : Extent) (sc : List ℕ) (s : L3Side) (out : List ℕ) (k : ℕ) where
+module _ (top : ℕ) (b : BookReconstructor) (mem : Memory) (n : Extent) (sc : List ℕ) (s : L3Side) (out : List ℕ) (k : ℕ) where
   abbrev os : List Resting
   os = ordersOf (front n mem) (b .rows)
 
   abbrev short : Bool
   short = scratchShort b sc
 
-  pub queue-said-of : (z : ℤ) → levelQueue ceiling b (front n mem) sc s z out .answer ≡ levels.Shown (Entries k)
-      → queueSaid (take (queueWords * k) (levelQueue ceiling b (front n mem) sc s z out .out)) ≡ queue s (natOf z) (lineIn mem (b .rows))
+  pub queue-said-of : (z : ℤ) → levelQueue top b (front n mem) sc s z out .answer ≡ levels.Shown (Entries k)
+      → queueSaid (take (queueWords * k) (levelQueue top b (front n mem) sc s z out .out)) ≡ queue s (natOf z) (lineIn mem (b .rows))
   queue-said-of z h =
-      let l = level-shown (viewRefusalOf ceiling b (front n mem) short) (shown (b .rules .«max_orders») (queueContent s (natOf z) os) sc out) sc out (Entries k) h in
+      let l = level-shown (viewRefusalOf top b (front n mem) short) (shown (b .rules .«max_orders») (queueContent s (natOf z) os) sc out) sc out (Entries k) h in
       let w = shows-entries (b .rules .«max_orders») (queueContent s (natOf z) os) sc out k (l .1) in
-      let r = same-orders b mem n short (valid-read ceiling b (front n mem) short (l .0) .0) in
+      let r = same-orders top b mem n short (valid-read top b (front n mem) short (l .0) .0) in
       ap (λ (x : List ℕ). queueSaid (take (queueWords * k) x)) (l .2)
       ∙ ap queueSaid (first-words (queueContent s (natOf z) os) out _ k 5 w (width-entries Queue (rowsAt s (natOf z) os)))
       ∙ queue-said s (natOf z) os
       ∙ ap (λ (x : List Resting). queue s (natOf z) (lineOf x)) r
 
-  pub profile-said-of : priorityProfile ceiling b (front n mem) sc s out .answer ≡ levels.Shown (Entries k)
-      → profileSaid (take (profileWords * k) (priorityProfile ceiling b (front n mem) sc s out .out)) ≡ volumesAt s (ordersOf mem (b .rows)) (prices s (lineIn mem (b .rows)))
+  pub profile-said-of : priorityProfile top b (front n mem) sc s out .answer ≡ levels.Shown (Entries k)
+      → profileSaid (take (profileWords * k) (priorityProfile top b (front n mem) sc s out .out)) ≡ volumesAt s (ordersOf mem (b .rows)) (prices s (lineIn mem (b .rows)))
   profile-said-of h =
-      let l = level-shown (viewRefusalOf ceiling b (front n mem) short) (shown (b .rules .«max_orders») (levelsContent profileWords s os) sc out) sc out (Entries k) h in
+      let l = level-shown (viewRefusalOf top b (front n mem) short) (shown (b .rules .«max_orders») (levelsContent profileWords s os) sc out) sc out (Entries k) h in
       let w = shows-entries (b .rules .«max_orders») (levelsContent profileWords s os) sc out k (l .1) in
-      let r = same-orders b mem n short (valid-read ceiling b (front n mem) short (l .0) .0) in
+      let r = same-orders top b mem n short (valid-read top b (front n mem) short (l .0) .0) in
       ap (λ (x : List ℕ). profileSaid (take (profileWords * k) x)) (l .2)
       ∙ ap profileSaid (first-words (levelsContent profileWords s os) out _ k 3 w (length-levels 3 (omega arith) s os (prices s (lineOf os))))
       ∙ profile-said s os
       ∙ ap (λ (x : List Resting). volumesAt s x (prices s (lineOf x))) r
 
-  pub stale-said-of : staleL2 ceiling b (front n mem) sc s out .answer ≡ stales.Shown (Entries k)
-      → l2Said (take (l2Words * k) (staleL2 ceiling b (front n mem) sc s out .out)) ≡ volumesAt s (ordersOf mem (b .rows)) (prices s (lineIn mem (b .rows)))
+  pub stale-said-of : staleL2 top b (front n mem) sc s out .answer ≡ stales.Shown (Entries k)
+      → l2Said (take (l2Words * k) (staleL2 top b (front n mem) sc s out .out)) ≡ volumesAt s (ordersOf mem (b .rows)) (prices s (lineIn mem (b .rows)))
   stale-said-of h =
-      let l = stale-shown (readRefusalOf ceiling b (front n mem) short) (b .status) (shown (b .rules .«max_orders») (levelsContent l2Words s os) sc out) sc out k h in
+      let l = stale-shown (readRefusalOf top b (front n mem) short) (b .status) (shown (b .rules .«max_orders») (levelsContent l2Words s os) sc out) sc out k h in
       let w = shows-entries (b .rules .«max_orders») (levelsContent l2Words s os) sc out k (l .1) in
-      let r = same-orders b mem n short (readable ceiling b (front n mem) short (l .0)) in
+      let r = same-orders top b mem n short (readable top b (front n mem) short (l .0)) in
       ap (λ (x : List ℕ). l2Said (take (l2Words * k) x)) (l .2)
       ∙ ap l2Said (first-words (levelsContent l2Words s os) out _ k 2 w (length-levels 2 (omega arith) s os (prices s (lineOf os))))
       ∙ l2-said s os

@@ -17,7 +17,7 @@ use Rattle.reconstructor_answers.specs.declared.InvalidationKind.{InvalidationK
 use Rattle.reconstructor_state.specs.declared.VenueRules.{VenueRules}
 use Rattle.reconstructor_state.specs.declared.Status.{Status}
 use Rattle.reconstructor_state.specs.declared.Status.the-variants as statuses
-use Rattle.reconstructor_state.specs.State.{ceiling, View, Lengths}
+use Rattle.reconstructor_state.specs.State.{View, Lengths}
 use Rattle.reconstructor_state.proofs.Checks.{first-passed}
 use Rattle.reconstructor.specs.Refusals.{statusRefusal, gateRefusal}
 use Rattle.reconstructor_bootstrap.specs.declared.SnapshotAnswer.{SnapshotAnswer}
@@ -52,16 +52,16 @@ is-valid statuses.Empty h = let z : _≡_ {A = ℕ} 0 1 = cc in absurd (omega ar
 is-valid (statuses.Valid last) h = refl
 is-valid (statuses.Invalidated i) h = let z : _≡_ {A = ℕ} 0 1 = cc in absurd (omega arith)
 
-module _ (c : Config) (n : Lengths) (v : View) where
-  gate-valid : (m : L3Message) → gateRefusal ceiling (c .product) (c .rules) n false v m ≡ none → standingOf (v .status) ≡ valid
+module _ (top : ℕ) (c : Config) (n : Lengths) (v : View) where
+  gate-valid : (m : L3Message) → gateRefusal top (c .product) (c .rules) n false v m ≡ none → standingOf (v .status) ≡ valid
   unfolding gateRefusal
   gate-valid m h = is-valid (v .status) (admit-status (c .product) (v .status) m (first-passed _ _ _ h .1))
 
-  apply-touched : (m : L3Message) → touches (applyOutcome c n false v m) → standingOf (v .status) ≡ valid
+  apply-touched : (m : L3Message) → touches (applyOutcome top c n false v m) → standingOf (v .status) ≡ valid
   unfolding applyOutcome
   apply-touched m h = gate-valid m (touched _ _ h)
 
-  step-touched : (h : Handshake) (m : L3Message) → touches (stepOutcome c n false v h m) → standingOf (v .status) ≡ valid
+  step-touched : (h : Handshake) (m : L3Message) → touches (stepOutcome top c n false v h m) → standingOf (v .status) ≡ valid
   unfolding stepOutcome
   step-touched h m t = apply-touched m (through _ _ _ t)
 
@@ -84,70 +84,70 @@ boot-frozen v ks k bytes s (some a) q = record { was = inl q; kept = refl; line 
 boot-frozen v ks k bytes (pieces.Refused e) none q = record { was = inl q; kept = refl; line = refl }
 boot-frozen v ks k bytes (pieces.Snapshot s) none q = let z : _≡_ {A = ℕ} 0 1 = cc in absurd (omega arith)
 
-frozen : (c : Config) (v : View) (ks : List Call) (k : Call) → standingOf (feedView c v k .status) ≡ invalid → Frozen v (feedView c v k) ks (keptAfter c v ks k)
+frozen : (top : ℕ) (c : Config) (v : View) (ks : List Call) (k : Call) → standingOf (feedView top c v k .status) ≡ invalid → Frozen v (feedView top c v k) ks (keptAfter top c v ks k)
 unfolding feedView keptAfter
-frozen c v ks (bootstrap n bytes) q = boot-frozen v ks (bootstrap n bytes) bytes (readSnapshot bytes) (bootOutcome c n v bytes) q
-frozen c v ks (apply n m) q = by-frozen (c .rules) m v ks (apply n m) (applyOutcome c n false v m) (apply-touched c n v m) q
-frozen c v ks (step n h m) q = by-frozen (c .rules) m v ks (apply n m) (stepOutcome c n false v h m) (step-touched c n v h m) q
-frozen c v ks (read x) q = record { was = inl q; kept = refl; line = refl }
+frozen top c v ks (bootstrap n bytes) q = boot-frozen v ks (bootstrap n bytes) bytes (readSnapshot bytes) (bootOutcome top c n v bytes) q
+frozen top c v ks (apply n m) q = by-frozen (c .rules) m v ks (apply n m) (applyOutcome top c n false v m) (apply-touched top c n v m) q
+frozen top c v ks (step n h m) q = by-frozen (c .rules) m v ks (apply n m) (stepOutcome top c n false v h m) (step-touched top c n v h m) q
+frozen top c v ks (read x) q = record { was = inl q; kept = refl; line = refl }
 
 -- every prefix of the calls leaves the view invalid
-abbrev Stays : Config → View → List Call → Type 0
-Stays c v [] = standingOf (v .status) ≡ invalid
-Stays c v (k ∷ ks) = (standingOf (v .status) ≡ invalid) × Stays c (feedView c v k) ks
+abbrev Stays : (top : ℕ) → Config → View → List Call → Type 0
+Stays top c v [] = standingOf (v .status) ≡ invalid
+Stays top c v (k ∷ ks) = (standingOf (v .status) ≡ invalid) × Stays top c (feedView top c v k) ks
 
-stays-more : (c : Config) (v : View) (ks : List Call) (k : Call) → Stays c v ks → standingOf (viewAll c v (ks ++ (k ∷ [])) .status) ≡ invalid → Stays c v (ks ++ (k ∷ []))
-stays-more c v [] k s q = (s, q)
-stays-more c v (x ∷ ks) k s q = (s .0, stays-more c (feedView c v x) ks k (s .1) q)
+stays-more : (top : ℕ) (c : Config) (v : View) (ks : List Call) (k : Call) → Stays top c v ks → standingOf (viewAll top c v (ks ++ (k ∷ [])) .status) ≡ invalid → Stays top c v (ks ++ (k ∷ []))
+stays-more top c v [] k s q = (s, q)
+stays-more top c v (x ∷ ks) k s q = (s .0, stays-more top c (feedView top c v x) ks k (s .1) q)
 
-pub stays-at : (c : Config) (v : View) (ks : List Call) (n : ℕ) → Stays c v ks → standingOf (viewAll c v (take n ks) .status) ≡ invalid
-stays-at c v [] zero s = s
-stays-at c v [] (suc n) s = s
-stays-at c v (x ∷ ks) zero s = s .0
-stays-at c v (x ∷ ks) (suc n) s = stays-at c (feedView c v x) ks n (s .1)
+pub stays-at : (top : ℕ) (c : Config) (v : View) (ks : List Call) (n : ℕ) → Stays top c v ks → standingOf (viewAll top c v (take n ks) .status) ≡ invalid
+stays-at top c v [] zero s = s
+stays-at top c v [] (suc n) s = s
+stays-at top c v (x ∷ ks) zero s = s .0
+stays-at top c v (x ∷ ks) (suc n) s = stays-at top c (feedView top c v x) ks n (s .1)
 
 -- the calls so far fall into those before an invalidating message, that message, and those since
-pub record Stale (c : Config) (ks : List Call) : Type 0 where
+pub record Stale (top : ℕ) (c : Config) (ks : List Call) : Type 0 where
   pub before : List Call
   pub bad : Call
   pub after : List Call
   pub parts : ks ≡ before ++ (bad ∷ after)
-  pub stood : standingOf (viewAll c blank before .status) ≡ valid
-  pub stays : Stays c (viewAll c blank (before ++ (bad ∷ []))) after
-  pub kept : kept c ks ≡ kept c before
-  pub line : viewAll c blank ks .line ≡ viewAll c blank before .line
+  pub stood : standingOf (viewAll top c blank before .status) ≡ valid
+  pub stays : Stays top c (viewAll top c blank (before ++ (bad ∷ []))) after
+  pub kept : kept top c ks ≡ kept top c before
+  pub line : viewAll top c blank ks .line ≡ viewAll top c blank before .line
 
-abbrev IfStale : Config → List Call → Type 0
-IfStale c ks = standingOf (viewAll c blank ks .status) ≡ invalid → Stale c ks
+abbrev IfStale : (top : ℕ) → Config → List Call → Type 0
+IfStale top c ks = standingOf (viewAll top c blank ks .status) ≡ invalid → Stale top c ks
 
-kept-append : (c : Config) (v : View) (ks a b : List Call) → keptAll c v ks (a ++ b) ≡ keptAll c (viewAll c v a) (keptAll c v ks a) b
-kept-append c v ks [] b = refl
-kept-append c v ks (k ∷ a) b = kept-append c (feedView c v k) (keptAfter c v ks k) a b
+kept-append : (top : ℕ) (c : Config) (v : View) (ks a b : List Call) → keptAll top c v ks (a ++ b) ≡ keptAll top c (viewAll top c v a) (keptAll top c v ks a) b
+kept-append top c v ks [] b = refl
+kept-append top c v ks (k ∷ a) b = kept-append top c (feedView top c v k) (keptAfter top c v ks k) a b
 
-one-more : (c : Config) (ks : List Call) (k : Call) → IfStale c ks → IfStale c (ks ++ (k ∷ []))
-one-more c ks k st q = go (f .was)
+one-more : (top : ℕ) (c : Config) (ks : List Call) (k : Call) → IfStale top c ks → IfStale top c (ks ++ (k ∷ []))
+one-more top c ks k st q = go (f .was)
   where
-    q′ : standingOf (feedView c (viewAll c blank ks) k .status) ≡ invalid
-    q′ = sym (ap (λ (x : View). standingOf (x .status)) (view-append c blank ks (k ∷ []))) ∙ q
+    q′ : standingOf (feedView top c (viewAll top c blank ks) k .status) ≡ invalid
+    q′ = sym (ap (λ (x : View). standingOf (x .status)) (view-append top c blank ks (k ∷ []))) ∙ q
 
-    f : Frozen (viewAll c blank ks) (feedView c (viewAll c blank ks) k) (kept c ks) (keptAfter c (viewAll c blank ks) (kept c ks) k)
-    f = frozen c (viewAll c blank ks) (kept c ks) k q′
+    f : Frozen (viewAll top c blank ks) (feedView top c (viewAll top c blank ks) k) (kept top c ks) (keptAfter top c (viewAll top c blank ks) (kept top c ks) k)
+    f = frozen top c (viewAll top c blank ks) (kept top c ks) k q′
 
-    same-kept : kept c (ks ++ (k ∷ [])) ≡ kept c ks
-    same-kept = kept-append c blank [] ks (k ∷ []) ∙ f .kept
+    same-kept : kept top c (ks ++ (k ∷ [])) ≡ kept top c ks
+    same-kept = kept-append top c blank [] ks (k ∷ []) ∙ f .kept
 
-    same-line : viewAll c blank (ks ++ (k ∷ [])) .line ≡ viewAll c blank ks .line
-    same-line = ap (λ (x : View). x .line) (view-append c blank ks (k ∷ [])) ∙ f .line
+    same-line : viewAll top c blank (ks ++ (k ∷ [])) .line ≡ viewAll top c blank ks .line
+    same-line = ap (λ (x : View). x .line) (view-append top c blank ks (k ∷ [])) ∙ f .line
 
-    ended : (s : Stale c ks) → standingOf (viewAll c (viewAll c blank (s .before ++ (s .bad ∷ []))) (s .after ++ (k ∷ [])) .status) ≡ invalid
+    ended : (s : Stale top c ks) → standingOf (viewAll top c (viewAll top c blank (s .before ++ (s .bad ∷ []))) (s .after ++ (k ∷ [])) .status) ≡ invalid
     ended s =
         let e : ks ++ (k ∷ []) ≡ (s .before ++ (s .bad ∷ [])) ++ (s .after ++ (k ∷ [])) =
         ap (λ (x : List Call). x ++ (k ∷ [])) (s .parts)
         ∙ append-assoc (s .before) (s .bad ∷ s .after) (k ∷ [])
         ∙ sym (append-assoc (s .before) (s .bad ∷ []) (s .after ++ (k ∷ []))) in
-        sym (ap (λ (x : View). standingOf (x .status)) (ap (viewAll c blank) e ∙ view-append c blank (s .before ++ (s .bad ∷ [])) (s .after ++ (k ∷ [])))) ∙ q
+        sym (ap (λ (x : View). standingOf (x .status)) (ap (viewAll top c blank) e ∙ view-append top c blank (s .before ++ (s .bad ∷ [])) (s .after ++ (k ∷ [])))) ∙ q
 
-    go : ((standingOf (viewAll c blank ks .status) ≡ invalid) ⊎ (standingOf (viewAll c blank ks .status) ≡ valid)) → Stale c (ks ++ (k ∷ []))
+    go : ((standingOf (viewAll top c blank ks .status) ≡ invalid) ⊎ (standingOf (viewAll top c blank ks .status) ≡ valid)) → Stale top c (ks ++ (k ∷ []))
     go (inl z) =
         let s = st z in
         record {
@@ -156,22 +156,22 @@ one-more c ks k st q = go (f .was)
           after = s .after ++ (k ∷ []);
           parts = ap (λ (x : List Call). x ++ (k ∷ [])) (s .parts) ∙ append-assoc (s .before) (s .bad ∷ s .after) (k ∷ []);
           stood = s .stood;
-          stays = stays-more c (viewAll c blank (s .before ++ (s .bad ∷ []))) (s .after) k (s .stays) (ended s);
+          stays = stays-more top c (viewAll top c blank (s .before ++ (s .bad ∷ []))) (s .after) k (s .stays) (ended s);
           kept = same-kept ∙ s .kept;
           line = same-line ∙ s .line;
         }
     go (inr z) = record { before = ks; bad = k; after = []; parts = refl; stood = z; stays = q; kept = same-kept; line = same-line }
 
-more : (c : Config) (ks rest : List Call) → IfStale c ks → IfStale c (ks ++ rest)
-more c ks [] st = rw (append-nil ks) st
-more c ks (k ∷ rest) st = rw (append-assoc ks (k ∷ []) rest) at (more c (ks ++ (k ∷ [])) rest (one-more c ks k st))
+more : (top : ℕ) (c : Config) (ks rest : List Call) → IfStale top c ks → IfStale top c (ks ++ rest)
+more top c ks [] st = rw (append-nil ks) st
+more top c ks (k ∷ rest) st = rw (append-assoc ks (k ∷ []) rest) at (more top c (ks ++ (k ∷ [])) rest (one-more top c ks k st))
 
-pub stale-line : (c : Config) (ks : List Call) → standingOf (viewAll c blank ks .status) ≡ invalid → Stale c ks
-stale-line c ks = more c [] ks (λ q. let z : _≡_ {A = ℕ} 0 1 = cc in absurd (omega arith))
+pub stale-line : (top : ℕ) (c : Config) (ks : List Call) → standingOf (viewAll top c blank ks .status) ≡ invalid → Stale top c ks
+stale-line top c ks = more top c [] ks (λ q. let z : _≡_ {A = ℕ} 0 1 = cc in absurd (omega arith))
 
 -- after the invalidating message and any number of those since
-pub stale-since : (c : Config) (ks : List Call) (s : Stale c ks) (n : ℕ) → standingOf (viewAll c blank (s .before ++ (s .bad ∷ take n (s .after))) .status) ≡ invalid
-stale-since c ks s n =
+pub stale-since : (top : ℕ) (c : Config) (ks : List Call) (s : Stale top c ks) (n : ℕ) → standingOf (viewAll top c blank (s .before ++ (s .bad ∷ take n (s .after))) .status) ≡ invalid
+stale-since top c ks s n =
     ap (λ (x : View). standingOf (x .status))
-    (ap (viewAll c blank) (sym (append-assoc (s .before) (s .bad ∷ []) (take n (s .after)))) ∙ view-append c blank (s .before ++ (s .bad ∷ [])) (take n (s .after)))
-    ∙ stays-at c (viewAll c blank (s .before ++ (s .bad ∷ []))) (s .after) n (s .stays)
+    (ap (viewAll top c blank) (sym (append-assoc (s .before) (s .bad ∷ []) (take n (s .after)))) ∙ view-append top c blank (s .before ++ (s .bad ∷ [])) (take n (s .after)))
+    ∙ stays-at top c (viewAll top c blank (s .before ++ (s .bad ∷ []))) (s .after) n (s .stays)

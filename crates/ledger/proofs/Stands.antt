@@ -28,7 +28,7 @@ use Rattle.reconstructor_segments.proofs.Last.{length-relast, relast-same}
 use Rattle.reconstructor_state.specs.declared.Status.the-variants.{Valid}
 use Rattle.reconstructor_state.specs.declared.VenueRules.{VenueRules}
 use Rattle.reconstructor_state.specs.declared.BookReconstructor.{BookReconstructor}
-use Rattle.reconstructor_state.specs.State.{ceiling, View, viewOf, viewWith, lengthsWith, lengthsOf, lastOf, withCounts}
+use Rattle.reconstructor_state.specs.State.{View, viewOf, viewWith, lengthsWith, lengthsOf, lastOf, withCounts}
 use Rattle.reconstructor_state.proofs.Checks.{fails, goes-on, first-on}
 use Rattle.reconstructor_checks.specs.StateChecks.{Usable, broken, stateRefusal}
 use Rattle.reconstructor_checks.proofs.StateChecks.{usable-none}
@@ -106,9 +106,9 @@ relast-start : (sg : List Segment) (n : ℕ) (g : Segment) → g .«start_seq» 
 relast-start sg zero g h = refl
 relast-start sg (suc n) g h = start-set sg n g h
 
-pub own-none : (b : BookReconstructor) (mem : Memory) (sg : List Segment) → Usable ceiling b mem (length sg) → stateRefusal ceiling (b .rules) (lengthsOf mem sg) false (b .segments) ≡ none
+pub own-none : (top : ℕ) (b : BookReconstructor) (mem : Memory) (sg : List Segment) → Usable top b mem (length sg) → stateRefusal top (b .rules) (lengthsOf mem sg) false (b .segments) ≡ none
 unfolding stateRefusal
-own-none b mem sg u = goes-on _ _ _ _ (u .within) (goes-on _ _ _ _ (u .lent) (goes-on _ _ _ _ refl refl))
+own-none top b mem sg u = goes-on _ _ _ _ (u .within) (goes-on _ _ _ _ (u .lent) (goes-on _ _ _ _ refl refl))
 
 accept-same : (b : BookReconstructor) (mem : Memory) (sg : List Segment) (s : ℕ) (x : L3Snapshot) (bytes : List ℕ)
     → acceptRefusal (b .«product_id») (b .rules) (lengthsOf mem sg) (viewOf b mem sg) x (snapshotLine x bytes)
@@ -118,20 +118,20 @@ accept-same b mem sg s x bytes = refl
 
 -- ---- `apply`, lent enough
 
-module _ (b : BookReconstructor) (mem : Memory) (sg : List Segment) (s : ℕ) (u : Usable ceiling b mem (length sg)) (st : Starts s b sg) (m : L3Message) where
+module _ (top : ℕ) (b : BookReconstructor) (mem : Memory) (sg : List Segment) (s : ℕ) (u : Usable top b mem (length sg)) (st : Starts s b sg) (m : L3Message) where
   abbrev last : Segment
   last = lastSegment sg (b .segments)
 
   abbrev gate : Option ApplyAnswer
-  gate = bookGate ceiling b mem (length sg) last m
+  gate = bookGate top b mem (length sg) last m
 
   -- the ledger meets the same number
-  outcome-same : applyOutcome (configOf b) (lengthsOf mem sg) false (seen s b mem) m
+  outcome-same : applyOutcome top (configOf b) (lengthsOf mem sg) false (seen s b mem) m
       ≡ settle gate (turnRefusal (b .rules) (lineIn mem (b .rows)) (lastOf (b .status)) m)
   unfolding applyOutcome gateRefusal
   outcome-same =
       ap (λ (o : Option ApplyAnswer). settle o (turnRefusal (b .rules) (lineIn mem (b .rows)) (lastOf (b .status)) m))
-      (first-on _ _ _ _ (own-none b mem sg u) refl ∙ sym (gate-trusted ceiling b mem (length sg) last m u))
+      (first-on _ _ _ _ (own-none top b mem sg u) refl ∙ sym (gate-trusted top b mem (length sg) last m u))
 
   abbrev Facts : Option ApplyAnswer → Option InvalidationKind → Type 0
   Facts o t =
@@ -171,20 +171,20 @@ module _ (b : BookReconstructor) (mem : Memory) (sg : List Segment) (s : ℕ) (u
   gate-facts (some a) = refused-facts a _
   gate-facts none = turn-facts (turnRefusal (b .rules) (lineIn mem (b .rows)) (lastOf (b .status)) m) refl
 
-  pub apply-stands : Stands (configOf b) (applied ceiling b mem sg m .book) (applied ceiling b mem sg m .memory) (applied ceiling b mem sg m .segments)
-      (viewBy (b .rules) m (applyOutcome (configOf b) (lengthsOf mem sg) false (seen s b mem) m) (seen s b mem))
+  pub apply-stands : Stands (configOf b) (applied top b mem sg m .book) (applied top b mem sg m .memory) (applied top b mem sg m .segments)
+      (viewBy (b .rules) m (applyOutcome top (configOf b) (lengthsOf mem sg) false (seen s b mem) m) (seen s b mem))
   unfolding applied appliedTo
   apply-stands =
       let o : Outcome = settle gate (turnRefusal (b .rules) (lineIn mem (b .rows)) (lastOf (b .status)) m) in
       let f = gate-facts gate in
       rw outcome-same
-      (stands-at (configOf b) _ _ _ (viewBy (b .rules) m o (seen s b mem)) s (start-kept (b .rules) m o (seen s b mem)) (f .0) (f .1) (f .2) (usable-kept ceiling b mem (length sg) u last m .sound))
+      (stands-at (configOf b) _ _ _ (viewBy (b .rules) m o (seen s b mem)) s (start-kept (b .rules) m o (seen s b mem)) (f .0) (f .1) (f .2) (usable-kept top b mem (length sg) u last m .sound))
 
 -- ---- a handshake step, lent enough
 
-module _ (b : BookReconstructor) (mem : Memory) (sg : List Segment) (s : ℕ) (u : Usable ceiling b mem (length sg)) (st : Starts s b sg) (h : Handshake) (m : L3Message) where
+module _ (top : ℕ) (b : BookReconstructor) (mem : Memory) (sg : List Segment) (s : ℕ) (u : Usable top b mem (length sg)) (st : Starts s b sg) (h : Handshake) (m : L3Message) where
   abbrev outcome : Outcome
-  outcome = stepOutcome (configOf b) (lengthsOf mem sg) false (seen s b mem) h m
+  outcome = stepOutcome top (configOf b) (lengthsOf mem sg) false (seen s b mem) h m
 
   unmoved : (k : MessageCounts) → Stands (configOf b) (withCounts b k) mem sg (seen s b mem)
   unfolding broken
@@ -196,12 +196,12 @@ module _ (b : BookReconstructor) (mem : Memory) (sg : List Segment) (s : ℕ) (u
   module _ (p : otherSegment h (segmentOf b) (b .segments) ≡ true) where
     other-outcome : outcome ≡ refused
     unfolding stepOutcome stepRefusal stepSettle
-    other-outcome = rw (first-on _ _ _ _ (own-none b mem sg u) (fails _ _ _ p))
+    other-outcome = rw (first-on _ _ _ _ (own-none top b mem sg u) (fails _ _ _ p))
 
   module _ (p : otherSegment h (segmentOf b) (b .segments) ≡ false) where
     range-outcome : not (eventInRange (m .event)) ≡ true → outcome ≡ refused
     unfolding stepOutcome stepRefusal stepSettle
-    range-outcome q = rw (first-on _ _ _ _ (own-none b mem sg u) (goes-on _ _ _ _ p (fails _ _ _ q)))
+    range-outcome q = rw (first-on _ _ _ _ (own-none top b mem sg u) (goes-on _ _ _ _ p (fails _ _ _ q)))
 
     pub same-start : lastSegment sg (b .segments) .«start_seq» ≡ s
     same-start =
@@ -210,38 +210,38 @@ module _ (b : BookReconstructor) (mem : Memory) (sg : List Segment) (s : ℕ) (u
         st (omega (arith, z))
 
     module _ (q : not (eventInRange (m .event)) ≡ false) where
-      through : outcome ≡ cond (drops (b .«product_id») s m) dropped (applyOutcome (configOf b) (lengthsOf mem sg) false (seen s b mem) m)
+      through : outcome ≡ cond (drops (b .«product_id») s m) dropped (applyOutcome top (configOf b) (lengthsOf mem sg) false (seen s b mem) m)
       unfolding stepOutcome stepRefusal stepSettle
-      through = rw (first-on _ _ _ _ (own-none b mem sg u) (goes-on _ _ _ _ p (goes-on _ _ _ _ q refl)))
+      through = rw (first-on _ _ _ _ (own-none top b mem sg u) (goes-on _ _ _ _ p (goes-on _ _ _ _ q refl)))
 
-  pub step-stands : StepStands outcome (stepped ceiling h b mem sg m)
+  pub step-stands : StepStands outcome (stepped top h b mem sg m)
   step-stands = go₁ (otherSegment h (segmentOf b) (b .segments)) refl
     where
       go₃ : (p : otherSegment h (segmentOf b) (b .segments) ≡ false) (q : not (eventInRange (m .event)) ≡ false) (d : Bool)
-          → drops (b .«product_id») s m ≡ d → StepStands outcome (stepped ceiling h b mem sg m)
+          → drops (b .«product_id») s m ≡ d → StepStands outcome (stepped top h b mem sg m)
       go₃ p q true e =
-          rw (through p q, e, dropped-step ceiling h b mem sg m u p q (ap (λ (x : ℕ). drops (b .«product_id») x m) (same-start p) ∙ e)) (unmoved _)
+          rw (through p q, e, dropped-step top h b mem sg m u p q (ap (λ (x : ℕ). drops (b .«product_id») x m) (same-start p) ∙ e)) (unmoved _)
       go₃ p q false e =
-          rw (through p q, e, decided-step ceiling h b mem sg m u p q (ap (λ (x : ℕ). drops (b .«product_id») x m) (same-start p) ∙ e)) (apply-stands b mem sg s u st m)
+          rw (through p q, e, decided-step top h b mem sg m u p q (ap (λ (x : ℕ). drops (b .«product_id») x m) (same-start p) ∙ e)) (apply-stands top b mem sg s u st m)
 
       go₂ : (p : otherSegment h (segmentOf b) (b .segments) ≡ false) (r : Bool) → not (eventInRange (m .event)) ≡ r
-          → StepStands outcome (stepped ceiling h b mem sg m)
-      go₂ p true q = rw (range-outcome p q, out-of-range-step ceiling h b mem sg m u p q) (unmoved (b .counts))
+          → StepStands outcome (stepped top h b mem sg m)
+      go₂ p true q = rw (range-outcome p q, out-of-range-step top h b mem sg m u p q) (unmoved (b .counts))
       go₂ p false q = go₃ p q (drops (b .«product_id») s m) refl
 
-      go₁ : (o : Bool) → otherSegment h (segmentOf b) (b .segments) ≡ o → StepStands outcome (stepped ceiling h b mem sg m)
-      go₁ true p = rw (other-outcome p, other-step ceiling h b mem sg m u p) (unmoved (b .counts))
+      go₁ : (o : Bool) → otherSegment h (segmentOf b) (b .segments) ≡ o → StepStands outcome (stepped top h b mem sg m)
+      go₁ true p = rw (other-outcome p, other-step top h b mem sg m u p) (unmoved (b .counts))
       go₁ false p = go₂ p (not (eventInRange (m .event))) refl
 
 -- ---- `bootstrap`, lent enough
 
-module _ (b : BookReconstructor) (mem : Memory) (sg : List Segment) (s : ℕ) (u : Usable ceiling b mem (length sg)) (st : Starts s b sg) (bytes : List ℕ) where
+module _ (top : ℕ) (b : BookReconstructor) (mem : Memory) (sg : List Segment) (s : ℕ) (u : Usable top b mem (length sg)) (st : Starts s b sg) (bytes : List ℕ) where
   abbrev BootStands : Option SnapshotAnswer → SnapshotParts → Type 0
   BootStands o p = Stands (configOf b) (p .book) (p .memory) (p .segments) (viewBoot o (readSnapshot bytes) bytes (seen s b mem))
 
-  pub boot-same : bootOutcome (configOf b) (lengthsOf mem sg) (seen s b mem) bytes ≡ refusalOf ceiling b mem sg bytes
+  pub boot-same : bootOutcome top (configOf b) (lengthsOf mem sg) (seen s b mem) bytes ≡ refusalOf top b mem sg bytes
   unfolding bootRefusal
-  boot-same = first-on _ _ _ _ (own-none b mem sg u) refl ∙ sym (first-on _ _ _ _ (usable-none ceiling b mem (length sg) u) (piece-same (readSnapshot bytes)))
+  boot-same = first-on _ _ _ _ (own-none top b mem sg u) refl ∙ sym (first-on _ _ _ _ (usable-none top b mem (length sg) u) (piece-same (readSnapshot bytes)))
     where
       piece-same : (r : ReadSnapshot)
           → pieceRefusal (b .«product_id») (b .rules) (lengthsOf mem sg) (viewOf b mem sg) r bytes ≡ pieceRefusal (b .«product_id») (b .rules) (lengthsOf mem sg) (seen s b mem) r bytes
@@ -252,8 +252,8 @@ module _ (b : BookReconstructor) (mem : Memory) (sg : List Segment) (s : ℕ) (u
   unfolding broken
   counted-stands x = rw (counts-alone x b) (record { config = refl; view = refl; start = st; sound = u .sound })
 
-  module _ (q : refusalOf ceiling b mem sg bytes ≡ none) where
-    module _ (x : L3Snapshot) (is : bootstrapped ceiling b mem sg bytes ≡ acceptedParts b mem sg (x .sequence) (snapshotLine x bytes)) where
+  module _ (q : refusalOf top b mem sg bytes ≡ none) where
+    module _ (x : L3Snapshot) (is : bootstrapped top b mem sg bytes ≡ acceptedParts b mem sg (x .sequence) (snapshotLine x bytes)) where
       abbrev line : List Entry
       line = snapshotLine x bytes
 
@@ -269,7 +269,7 @@ module _ (b : BookReconstructor) (mem : Memory) (sg : List Segment) (s : ℕ) (u
 
       left-start : Starts (x .sequence) (left .book) (left .segments)
       left-start z =
-          let a = is-accepted ceiling b mem sg bytes q in
+          let a = is-accepted top b mem sg bytes q in
           let g : Segment = closed (b .status) (lastSegment sg (b .segments)) in
           let c = length-relast sg (b .segments) g in
           ap (λ (n : ℕ). lastSegment (left .segments) n .«start_seq») (add-one (b .segments))
@@ -281,15 +281,15 @@ module _ (b : BookReconstructor) (mem : Memory) (sg : List Segment) (s : ℕ) (u
             config = refl;
             view = ap (λ (l : List Entry). record { status = Valid (x .sequence); startSeq = x .sequence; segments = b .segments + 1; line = l }) left-line;
             start = left-start;
-            sound = subst (λ (p : SnapshotParts). broken (p .book) (p .memory) ≡ false) is (accepted-usable ceiling b mem sg bytes q .sound);
+            sound = subst (λ (p : SnapshotParts). broken (p .book) (p .memory) ≡ false) is (accepted-usable top b mem sg bytes q .sound);
           }
 
-    taken-stands : BootStands none (bootstrapped ceiling b mem sg bytes)
-    taken-stands = let a = is-accepted ceiling b mem sg bytes q in rw (a .is, a .read) (left-stands (a .snapshot) (a .is))
+    taken-stands : BootStands none (bootstrapped top b mem sg bytes)
+    taken-stands = let a = is-accepted top b mem sg bytes q in rw (a .is, a .read) (left-stands (a .snapshot) (a .is))
 
-  pub boot-stands : BootStands (bootOutcome (configOf b) (lengthsOf mem sg) (seen s b mem) bytes) (bootstrapped ceiling b mem sg bytes)
-  boot-stands = rw boot-same (go (refusalOf ceiling b mem sg bytes) refl)
+  pub boot-stands : BootStands (bootOutcome top (configOf b) (lengthsOf mem sg) (seen s b mem) bytes) (bootstrapped top b mem sg bytes)
+  boot-stands = rw boot-same (go (refusalOf top b mem sg bytes) refl)
     where
-      go : (o : Option SnapshotAnswer) → refusalOf ceiling b mem sg bytes ≡ o → BootStands o (bootstrapped ceiling b mem sg bytes)
-      go (some x) q = rw (refused-is ceiling b mem sg bytes x q) (counted-stands x)
+      go : (o : Option SnapshotAnswer) → refusalOf top b mem sg bytes ≡ o → BootStands o (bootstrapped top b mem sg bytes)
+      go (some x) q = rw (refused-is top b mem sg bytes x q) (counted-stands x)
       go none q = taken-stands q

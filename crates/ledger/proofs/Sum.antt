@@ -1,4 +1,4 @@
--- The sum rule, of any list of calls.
+-- The sum rule, of any list of calls, under any ceiling up to 4,096.
 -- Assumes nothing.
 use Prim.Native.Nat.{ℕ, _-_, _≤_}
 use native.Mathlib.Omega.{arith}
@@ -8,6 +8,7 @@ use lib.ListN.{length, take, drop, take-append-drop}
 use Rattle.message.specs.declared.L3Side.{L3Side}
 use Rattle.message.specs.Amounts.{natOf}
 use Rattle.book.specs.Line.{Entry, volume, queue}
+use Rattle.book.specs.Rows.{mostRows}
 use Rattle.book.specs.Memory.{Memory, Extent, extentOf}
 use Rattle.book_levels.specs.Levels.{prices}
 use Rattle.reconstructor_segments.specs.declared.Segment.{Segment}
@@ -28,9 +29,9 @@ use Rattle.ledger.proofs.Bound.{line-bound}
 use Rattle.ledger.proofs.Sums.{sums-on-the-way}
 use Rattle.ledger.proofs.Counts.{counts-are}
 
-feed-view : (c : Config) (l : Ledger) (ks : List Call) → feedAll c l ks .view ≡ viewAll c (l .view) ks
-feed-view c l [] = refl
-feed-view c l (k ∷ ks) = feed-view c (feed c l k) ks
+feed-view : (top : ℕ) (c : Config) (l : Ledger) (ks : List Call) → feedAll top c l ks .view ≡ viewAll top c (l .view) ks
+feed-view top c l [] = refl
+feed-view top c l (k ∷ ks) = feed-view top c (feed top c l k) ks
 
 lend-front : (r : Extent) (s : ℕ) (a b : List Call) → Lendable r s (a ++ b) → Lendable r s a
 lend-front r s [] b l = tt
@@ -42,35 +43,35 @@ lend-front r s (read q ∷ a) b l = lend-front r s a b l
 alike : (w x : World) → lineAt w ≡ lineAt x → Alike w x
 alike w x e = record { volumes = λ s p. ap (volume s p) e; queues = λ s p. ap (queue s p) e }
 
-module _ (c : Config) (mem : Memory) (sg : List Segment) where
+module _ (top : ℕ) (small : top ≤ mostRows) (c : Config) (mem : Memory) (sg : List Segment) where
   abbrev after : List Call → World
-  after ks = run (freshWorld c mem sg) ks
+  after ks = run top (freshWorld c mem sg) ks
 
-  follows : (ks : List Call) → Lendable (extentOf mem) (length sg) ks → Follows c (extentOf mem) (length sg) (after ks) (feedAll c fresh ks .view)
+  follows : (ks : List Call) → Lendable (extentOf mem) (length sg) ks → Follows c (extentOf mem) (length sg) (after ks) (feedAll top c fresh ks .view)
   follows ks l =
-      subst (Follows c (extentOf mem) (length sg) (after ks)) (sym (feed-view c fresh ks)) (follow-all c (extentOf mem) (length sg) (freshWorld c mem sg) blank ks (fresh-follows c mem sg) l)
+      subst (Follows c (extentOf mem) (length sg) (after ks)) (sym (feed-view top c fresh ks)) (follow-all top c (extentOf mem) (length sg) (freshWorld c mem sg) blank ks (fresh-follows c mem sg) l)
 
-  standing-is : (ks : List Call) → Lendable (extentOf mem) (length sg) ks → standingAt (after ks) ≡ standingOf (viewAll c blank ks .status)
+  standing-is : (ks : List Call) → Lendable (extentOf mem) (length sg) ks → standingAt (after ks) ≡ standingOf (viewAll top c blank ks .status)
   standing-is ks l =
-      ap (λ (x : View). standingOf (x .status)) (follow-all c (extentOf mem) (length sg) (freshWorld c mem sg) blank ks (fresh-follows c mem sg) l .stands .view)
+      ap (λ (x : View). standingOf (x .status)) (follow-all top c (extentOf mem) (length sg) (freshWorld c mem sg) blank ks (fresh-follows c mem sg) l .stands .view)
 
-  ledger-line : (ks : List Call) → Lendable (extentOf mem) (length sg) ks → lineAt (after ks) ≡ feedAll c fresh ks .view .line
+  ledger-line : (ks : List Call) → Lendable (extentOf mem) (length sg) ks → lineAt (after ks) ≡ feedAll top c fresh ks .view .line
   ledger-line ks l = ap (λ (x : View). x .line) (follows ks l .stands .view)
 
-  figure-is : (ks : List Call) (s : L3Side) (p : ℕ) → feedAll c fresh ks .figure s p ≡ volume s p (feedAll c fresh ks .view .line)
+  figure-is : (ks : List Call) (s : L3Side) (p : ℕ) → feedAll top c fresh ks .figure s p ≡ volume s p (feedAll top c fresh ks .view .line)
   unfolding Tallies
-  figure-is ks s p = all-tallies c fresh ks fresh-tallies s p
+  figure-is ks s p = all-tallies top c fresh ks fresh-tallies s p
 
   figures-are : (ks : List Call) → Lendable (extentOf mem) (length sg) ks → (s : L3Side) (ps : List ℕ)
-      → map (λ (p : ℕ). (p, volume s p (lineAt (after ks)))) ps ≡ figuresOf s ps (feedAll c fresh ks .figure)
+      → map (λ (p : ℕ). (p, volume s p (lineAt (after ks)))) ps ≡ figuresOf s ps (feedAll top c fresh ks .figure)
   figures-are ks l s [] = refl
   figures-are ks l s (p ∷ ps) =
       ap₂ (λ (x : ℕ) (y : List (ℕ × ℕ)). (p, x) ∷ y) (ap (volume s p) (ledger-line ks l) ∙ sym (figure-is ks s p)) (figures-are ks l s ps)
 
-  stand-facts : (ks : List Call) → Lendable (extentOf mem) (length sg) ks → Stand (after ks) (feedAll c fresh ks)
+  stand-facts : (ks : List Call) → Lendable (extentOf mem) (length sg) ks → Stand (after ks) (feedAll top c fresh ks)
   stand-facts ks l =
       let f = follows ks l in
-      let e : after ks .book .segments ≡ feedAll c fresh ks .view .segments = ap (λ (x : View). x .segments) (f .stands .view) in
+      let e : after ks .book .segments ≡ feedAll top c fresh ks .view .segments = ap (λ (x : View). x .segments) (f .stands .view) in
       record {
         standing = ap (λ (x : View). standingOf (x .status)) (f .stands .view);
         last = ap (λ (x : View). lastOf (x .status)) (f .stands .view);
@@ -79,48 +80,48 @@ module _ (c : Config) (mem : Memory) (sg : List Segment) where
         start = λ z. ap (λ (k : ℕ). lastSegment (after ks .segments) k .«start_seq») (sym e) ∙ f .stands .start (omega (arith, e, z));
       }
 
-  read-facts : (ks : List Call) → Lendable (extentOf mem) (length sg) ks → Readings (c .rules) (after ks) (feedAll c fresh ks)
+  read-facts : (ks : List Call) → Lendable (extentOf mem) (length sg) ks → Readings top (c .rules) (after ks) (feedAll top c fresh ks)
   read-facts ks l =
       let w : World = after ks in
-      let v : View = feedAll c fresh ks .view in
+      let v : View = feedAll top c fresh ks .view in
       let f : Follows c (extentOf mem) (length sg) w v = follows ks l in
       record {
-        queue-read = λ n sc s z out k h. queue-said-of (w .book) (w .memory) n sc s out k z h ∙ ap (queue s (natOf z)) (ledger-line ks l);
+        queue-read = λ n sc s z out k h. queue-said-of top (w .book) (w .memory) n sc s out k z h ∙ ap (queue s (natOf z)) (ledger-line ks l);
         profile-read = λ n sc s out k h.
-            profile-said-of (w .book) (w .memory) n sc s out k h
+            profile-said-of top (w .book) (w .memory) n sc s out k h
             ∙ figures-are ks l s (prices s (lineAt w))
-            ∙ ap (λ (x : List Entry). figuresOf s (prices s x) (feedAll c fresh ks .figure)) (ledger-line ks l);
-        queue-answers = λ h n sc e s z out k. queue-answers c (extentOf mem) (length sg) w v f n sc e h s z out k;
-        profile-answers = λ h n sc e s out k. profile-answers c (extentOf mem) (length sg) w v f n sc e h s out k;
-        last-answers = λ h n e. last-answers c (extentOf mem) (length sg) w v f n h e;
-        turned-away = λ h n. turned-away c (extentOf mem) (length sg) w v f n h;
+            ∙ ap (λ (x : List Entry). figuresOf s (prices s x) (feedAll top c fresh ks .figure)) (ledger-line ks l);
+        queue-answers = λ h n sc e s z out k. queue-answers top c (extentOf mem) (length sg) w v f n sc e h s z out k;
+        profile-answers = λ h n sc e s out k. profile-answers top c (extentOf mem) (length sg) w v f n sc e h s out k;
+        last-answers = λ h n e. last-answers top c (extentOf mem) (length sg) w v f n h e;
+        turned-away = λ h n. turned-away top c (extentOf mem) (length sg) w v f n h;
         stale-read = λ n sc s out k h.
-            stale-said-of (w .book) (w .memory) n sc s out k h
+            stale-said-of top (w .book) (w .memory) n sc s out k h
             ∙ figures-are ks l s (prices s (lineAt w))
-            ∙ ap (λ (x : List Entry). figuresOf s (prices s x) (feedAll c fresh ks .figure)) (ledger-line ks l);
-        stale-answers = λ h n sc e s out k. stale-answers c (extentOf mem) (length sg) w v f n sc e h s out k;
+            ∙ ap (λ (x : List Entry). figuresOf s (prices s x) (feedAll top c fresh ks .figure)) (ledger-line ks l);
+        stale-answers = λ h n sc e s out k. stale-answers top c (extentOf mem) (length sg) w v f n sc e h s out k;
       }
 
-  pub sum-rule : (ks : List Call) → Lendable (extentOf mem) (length sg) ks → SumRule c mem sg ks
+  pub sum-rule : (ks : List Call) → Lendable (extentOf mem) (length sg) ks → SumRule top c mem sg ks
   sum-rule ks l =
       record {
         volumes = λ s p. ap (volume s p) (ledger-line ks l) ∙ sym (figure-is ks s p);
         queues = λ s p. ap (queue s p) (ledger-line ks l);
         stands = stand-facts ks l;
-        counts = counts-are c mem sg ks l;
+        counts = counts-are top c mem sg ks l;
         bound = λ s p.
-            subst (λ (x : ℕ). x ≤ 4096000000000000000) (ap (λ (x : View). volume s p (x .line)) (sym (feed-view c fresh ks)) ∙ sym (figure-is ks s p))
-            (line-bound c (extentOf mem) (length sg) (after ks) ks (follow-all c (extentOf mem) (length sg) (freshWorld c mem sg) blank ks (fresh-follows c mem sg) l) s p);
+            subst (λ (x : ℕ). x ≤ 4096000000000000000) (ap (λ (x : View). volume s p (x .line)) (sym (feed-view top c fresh ks)) ∙ sym (figure-is ks s p))
+            (line-bound top small c (extentOf mem) (length sg) (after ks) ks (follow-all top c (extentOf mem) (length sg) (freshWorld c mem sg) blank ks (fresh-follows c mem sg) l) s p);
         on-the-way = sums-on-the-way;
-        afresh = λ k mem′ sg′ l′. alike _ _ (line-is c mem sg ks l ∙ sym (all-repeats c k ks .line) ∙ sym (line-is (numbered c k) mem′ sg′ (kept c ks) l′));
+        afresh = λ k mem′ sg′ l′. alike _ _ (line-is top c mem sg ks l ∙ sym (all-repeats top c k ks .line) ∙ sym (line-is top (numbered c k) mem′ sg′ (kept top c ks) l′));
         reads = read-facts ks l;
         never-three = λ n f.
-            never-three c (extentOf mem) (length sg) (after ks) (viewAll c blank ks)
-            (follow-all c (extentOf mem) (length sg) (freshWorld c mem sg) blank ks (fresh-follows c mem sg) l) n f;
-        when-invalid = λ h. fall (stale-line c ks (ap (λ (x : View). standingOf (x .status)) (sym (feed-view c fresh ks)) ∙ h));
+            never-three top c (extentOf mem) (length sg) (after ks) (viewAll top c blank ks)
+            (follow-all top c (extentOf mem) (length sg) (freshWorld c mem sg) blank ks (fresh-follows c mem sg) l) n f;
+        when-invalid = λ h. fall (stale-line top c ks (ap (λ (x : View). standingOf (x .status)) (sym (feed-view top c fresh ks)) ∙ h));
       }
     where
-      fall : Stale c ks → WhenInvalid c (freshWorld c mem sg) ks
+      fall : Stale top c ks → WhenInvalid top c (freshWorld c mem sg) ks
       fall t =
           let l₁ : Lendable (extentOf mem) (length sg) (t .before ++ (t .bad ∷ t .after)) = subst (Lendable (extentOf mem) (length sg)) (t .parts) l in
           let l₂ : Lendable (extentOf mem) (length sg) (t .before) = lend-front _ _ (t .before) (t .bad ∷ t .after) l₁ in
@@ -134,14 +135,14 @@ module _ (c : Config) (mem : Memory) (sg : List Segment) where
             after = t .after;
             parts = t .parts;
             stood = standing-is (t .before) l₂ ∙ t .stood;
-            fell = standing-is (t .before ++ (t .bad ∷ [])) (l₃ 0) ∙ stale-since c ks t 0;
-            since = λ n. standing-is (t .before ++ (t .bad ∷ take n (t .after))) (l₃ n) ∙ stale-since c ks t n;
+            fell = standing-is (t .before ++ (t .bad ∷ [])) (l₃ 0) ∙ stale-since top c ks t 0;
+            since = λ n. standing-is (t .before ++ (t .bad ∷ take n (t .after))) (l₃ n) ∙ stale-since top c ks t n;
             nothing = t .kept;
-            stale = alike _ _ (line-is c mem sg ks l ∙ t .line ∙ sym (line-is c mem sg (t .before) l₂));
+            stale = alike _ _ (line-is top c mem sg ks l ∙ t .line ∙ sym (line-is top c mem sg (t .before) l₂));
             stale-read = λ n sc s out k h.
-                stale-said-of (run (freshWorld c mem sg) ks .book) (run (freshWorld c mem sg) ks .memory) n sc s out k h
-                ∙ ap (λ (x : List Entry). map (λ (p : ℕ). (p, volume s p x)) (prices s x)) (line-is c mem sg ks l ∙ t .line ∙ sym (line-is c mem sg (t .before) l₂));
+                stale-said-of top (run top (freshWorld c mem sg) ks .book) (run top (freshWorld c mem sg) ks .memory) n sc s out k h
+                ∙ ap (λ (x : List Entry). map (λ (p : ℕ). (p, volume s p x)) (prices s x)) (line-is top c mem sg ks l ∙ t .line ∙ sym (line-is top c mem sg (t .before) l₂));
           }
 
 pub demand-3 : Demand3
-demand-3 c mem sg ks l = sum-rule c mem sg ks l
+demand-3 top small c mem sg ks l = sum-rule top small c mem sg ks l

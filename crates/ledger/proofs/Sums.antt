@@ -1,4 +1,4 @@
--- The sums on the way in a snapshot: of the first orders of any that reads and has no more orders than the ceiling, accepted or refused later.
+-- The sums on the way in a snapshot: of the first orders of any that reads and has at most 4,096 orders, accepted or refused later.
 -- Assumes nothing.
 use Prim.Native.Nat.{ℕ, zero, suc, _+_, _*_, _≤_}
 use native.Mathlib.Omega.{arith}
@@ -14,7 +14,7 @@ use Rattle.message.proofs.Amounts.{in-range-most}
 use Rattle.piece.specs.declared.ReadSnapshot.the-variants.{Snapshot}
 use Rattle.piece.specs.Piece.{orderAt, ordersFrom, readSnapshot}
 use Rattle.book.specs.Line.{Entry, sameLevel, volume}
-use Rattle.reconstructor_state.specs.State.{ceiling}
+use Rattle.book.specs.Rows.{mostRows}
 use Rattle.reconstructor_bootstrap.specs.Snapshot.{snapshotLine}
 use Rattle.reconstructor_bootstrap.specs.Places.{entryAt, entriesFrom}
 use Rattle.reconstructor_bootstrap.proofs.Places.{line-places}
@@ -44,7 +44,7 @@ entries-small bids bytes i (suc k) h =
     let b = and-yes (inRange (orderAt bytes i .price)) (inRange (orderAt bytes i .size)) (a .0) in
     (in-range-most (orderAt bytes i .size) (b .1), entries-small bids bytes (i + 1) k (a .1))
 
-pub sums-on-the-way : (bytes : List ℕ) (x : L3Snapshot) → readSnapshot bytes ≡ Snapshot x → x .bids + x .asks ≤ ceiling → (n : ℕ) (s : L3Side) (p : ℕ)
+pub sums-on-the-way : (bytes : List ℕ) (x : L3Snapshot) → readSnapshot bytes ≡ Snapshot x → x .bids + x .asks ≤ mostRows → (n : ℕ) (s : L3Side) (p : ℕ)
     → volume s p (take n (snapshotLine x bytes)) ≤ 4096000000000000000
 sums-on-the-way bytes x h few n s p =
     let l : Small (snapshotLine x bytes) = subst Small (sym (line-places x bytes)) (entries-small (x .bids) bytes 0 (x .bids + x .asks) (read-ranged bytes x h)) in

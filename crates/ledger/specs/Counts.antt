@@ -15,7 +15,7 @@ use Rattle.reconstructor_counts.specs.declared.Counter.{Counter}
 use Rattle.reconstructor_counts.specs.declared.Counter.the-variants as counters
 use Rattle.reconstructor_counts.specs.Counts.{largest, placeOf}
 use Rattle.reconstructor_state.specs.declared.VenueRules.{VenueRules}
-use Rattle.reconstructor_state.specs.State.{ceiling, View, Lengths, lastOf}
+use Rattle.reconstructor_state.specs.State.{View, Lengths, lastOf}
 use Rattle.reconstructor_plan.specs.Rules.{counterOf}
 use Rattle.reconstructor.specs.Refusals.{gateRefusal, turnRefusal}
 use Rattle.reconstructor_bootstrap.specs.declared.SnapshotAnswer.{SnapshotAnswer}
@@ -62,22 +62,22 @@ abbrev pub hit : Counter → Option Counter → ℕ
 hit i none = 0
 hit i (some k) = cond (eqb (placeOf k) (placeOf i)) 1 0
 
-module _ (c : Config) where
+module _ (top : ℕ) (c : Config) where
   unfoldable pub applyPlace : View → Lengths → L3Message → Option Counter
   applyPlace w n m =
-      messagePlace (c .rules) (w .line) (m .event) (gateRefusal ceiling (c .product) (c .rules) n false w m) (turnRefusal (c .rules) (w .line) (lastOf (w .status)) m)
+      messagePlace (c .rules) (w .line) (m .event) (gateRefusal top (c .product) (c .rules) n false w m) (turnRefusal (c .rules) (w .line) (lastOf (w .status)) m)
 
   unfoldable pub placeIn : View → Call → Option Counter
-  placeIn w (bootstrap n bytes) = snapshotPlace (bootOutcome c n w bytes)
+  placeIn w (bootstrap n bytes) = snapshotPlace (bootOutcome top c n w bytes)
   placeIn w (apply n m) = applyPlace w n m
-  placeIn w (step n h m) = stepPlace (stepRefusal ceiling (c .rules) n false w (nameOf c w) h m) (drops (c .product) (w .startSeq) m) (applyPlace w n m)
+  placeIn w (step n h m) = stepPlace (stepRefusal top (c .rules) n false w (nameOf c w) h m) (drops (c .product) (w .startSeq) m) (applyPlace w n m)
   placeIn w (read q) = none
 
   -- ---- how many calls are counted at the counter i
 
   abbrev pub timesIn : View → List Call → Counter → ℕ
   timesIn w [] i = 0
-  timesIn w (k ∷ ks) i = hit i (placeIn w k) + timesIn (feedView c w k) ks i
+  timesIn w (k ∷ ks) i = hit i (placeIn w k) + timesIn (feedView top c w k) ks i
 
 -- "Counters stop at 2^64−1."
 abbrev pub upTo : ℕ → ℕ

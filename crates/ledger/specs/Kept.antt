@@ -1,4 +1,5 @@
 -- The calls that count: the last accepted snapshot, and the messages accepted since, each once. A step's message is repeated by `apply`.
+use Prim.Native.Nat.{ℕ}
 use mathlib.Core.Bool.{false}
 use mathlib.Core.List.{List, [], _∷_, _++_}
 use mathlib.Core.Option.{Option, none, some}
@@ -20,16 +21,16 @@ keptBoot (some a) s ks k = ks
 keptBoot none (pieces.Refused e) ks k = ks
 keptBoot none (pieces.Snapshot s) ks k = k ∷ []
 
-module _ (c : Config) where
+module _ (top : ℕ) (c : Config) where
   unfoldable pub keptAfter : View → List Call → Call → List Call
-  keptAfter w ks (bootstrap n bytes) = keptBoot (bootOutcome c n w bytes) (readSnapshot bytes) ks (bootstrap n bytes)
-  keptAfter w ks (apply n m) = keptBy (applyOutcome c n false w m) ks (apply n m)
-  keptAfter w ks (step n h m) = keptBy (stepOutcome c n false w h m) ks (apply n m)
+  keptAfter w ks (bootstrap n bytes) = keptBoot (bootOutcome top c n w bytes) (readSnapshot bytes) ks (bootstrap n bytes)
+  keptAfter w ks (apply n m) = keptBy (applyOutcome top c n false w m) ks (apply n m)
+  keptAfter w ks (step n h m) = keptBy (stepOutcome top c n false w h m) ks (apply n m)
   keptAfter w ks (read q) = ks
 
   abbrev pub keptAll : View → List Call → List Call → List Call
   keptAll w ks [] = ks
-  keptAll w ks (k ∷ rest) = keptAll (feedView c w k) (keptAfter w ks k) rest
+  keptAll w ks (k ∷ rest) = keptAll (feedView top c w k) (keptAfter w ks k) rest
 
   -- of all calls on a fresh book
   abbrev pub kept : List Call → List Call

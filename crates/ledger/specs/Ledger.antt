@@ -24,7 +24,7 @@ use Rattle.reconstructor_answers.specs.declared.ApplyAnswer.{ApplyAnswer}
 use Rattle.reconstructor_segments.specs.declared.SegmentName.{SegmentName}
 use Rattle.reconstructor_state.specs.declared.Status.the-variants as statuses
 use Rattle.reconstructor_state.specs.declared.VenueRules.{VenueRules}
-use Rattle.reconstructor_state.specs.State.{ceiling, View, Lengths, lastOf}
+use Rattle.reconstructor_state.specs.State.{View, Lengths, lastOf}
 use Rattle.reconstructor_plan.specs.Rules.{sizeGiven, effect}
 use Rattle.reconstructor.specs.Refusals.{gateRefusal, turnRefusal}
 use Rattle.reconstructor.specs.Applied.{invalidation}
@@ -95,10 +95,11 @@ settle (some a) t = refused
 settle none (some k) = invalidates k
 settle none none = accepted
 
--- "A snapshot or message is accepted if, worked in the order above, it meets no number and isn't dropped"; `three` is false here
-unfoldable pub applyOutcome : Config → Lengths → Bool → View → L3Message → Outcome
-applyOutcome c n three w m =
-    settle (gateRefusal ceiling (c .product) (c .rules) n three w m) (turnRefusal (c .rules) (w .line) (lastOf (w .status)) m)
+-- "A snapshot or message is accepted if, worked in the order above, it meets no number and isn't dropped"; `three` is false here,
+-- and `top`, the ceiling of the limits, is an argument of all that goes by it
+unfoldable pub applyOutcome : ℕ → Config → Lengths → Bool → View → L3Message → Outcome
+applyOutcome top c n three w m =
+    settle (gateRefusal top (c .product) (c .rules) n three w m) (turnRefusal (c .rules) (w .line) (lastOf (w .status)) m)
 
 unfoldable pub stepSettle : Option StepAnswer → Bool → Outcome → Outcome
 stepSettle (some a) d o = refused
@@ -107,9 +108,9 @@ stepSettle none d o = cond d dropped o
 abbrev pub nameOf : Config → View → SegmentName
 nameOf c w = record { number = c .number; place = w .segments - 1 }
 
-unfoldable pub stepOutcome : Config → Lengths → Bool → View → Handshake → L3Message → Outcome
-stepOutcome c n three w h m =
-    stepSettle (stepRefusal ceiling (c .rules) n three w (nameOf c w) h m) (drops (c .product) (w .startSeq) m) (applyOutcome c n three w m)
+unfoldable pub stepOutcome : ℕ → Config → Lengths → Bool → View → Handshake → L3Message → Outcome
+stepOutcome top c n three w h m =
+    stepSettle (stepRefusal top (c .rules) n three w (nameOf c w) h m) (drops (c .product) (w .startSeq) m) (applyOutcome top c n three w m)
 
 -- ---- the figures
 
@@ -189,20 +190,20 @@ figureBoot (some a) s bytes f = f
 figureBoot none (pieces.Refused e) bytes f = f
 figureBoot none (pieces.Snapshot s) bytes f = tallied (snapshotLine s bytes) nought
 
-module _ (c : Config) where
+module _ (top : ℕ) (c : Config) where
   abbrev pub bootOutcome : Lengths → View → List ℕ → Option SnapshotAnswer
-  bootOutcome n w bytes = bootRefusal ceiling (c .product) (c .rules) n false w bytes
+  bootOutcome n w bytes = bootRefusal top (c .product) (c .rules) n false w bytes
 
   unfoldable pub feedView : View → Call → View
   feedView w (bootstrap n bytes) = viewBoot (bootOutcome n w bytes) (readSnapshot bytes) bytes w
-  feedView w (apply n m) = viewBy (c .rules) m (applyOutcome c n false w m) w
-  feedView w (step n h m) = viewBy (c .rules) m (stepOutcome c n false w h m) w
+  feedView w (apply n m) = viewBy (c .rules) m (applyOutcome top c n false w m) w
+  feedView w (step n h m) = viewBy (c .rules) m (stepOutcome top c n false w h m) w
   feedView w (read q) = w
 
   unfoldable pub feedFigure : View → Call → Figure → Figure
   feedFigure w (bootstrap n bytes) f = figureBoot (bootOutcome n w bytes) (readSnapshot bytes) bytes f
-  feedFigure w (apply n m) f = figureBy (c .rules) m (applyOutcome c n false w m) w f
-  feedFigure w (step n h m) f = figureBy (c .rules) m (stepOutcome c n false w h m) w f
+  feedFigure w (apply n m) f = figureBy (c .rules) m (applyOutcome top c n false w m) w f
+  feedFigure w (step n h m) f = figureBy (c .rules) m (stepOutcome top c n false w h m) w f
   feedFigure w (read q) f = f
 
   abbrev pub feed : Ledger → Call → Ledger

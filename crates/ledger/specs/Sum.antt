@@ -14,6 +14,7 @@ use Rattle.message.specs.declared.L3Snapshot.{L3Snapshot}
 use Rattle.piece.specs.declared.ReadSnapshot.the-variants.{Snapshot}
 use Rattle.piece.specs.Piece.{readSnapshot}
 use Rattle.book.specs.Line.{volume, queue}
+use Rattle.book.specs.Rows.{mostRows}
 use Rattle.book.specs.Memory.{Memory, Extent, extentOf, front}
 use Rattle.book_levels.specs.Levels.{prices}
 use Rattle.reconstructor_answers.specs.declared.StateError.the-variants.{MalformedBook}
@@ -22,7 +23,7 @@ use Rattle.reconstructor_segments.specs.declared.Segment.{Segment}
 use Rattle.reconstructor_state.specs.declared.BookReconstructor.{BookReconstructor}
 use Rattle.reconstructor_segments.specs.Segments.{lastSegment}
 use Rattle.reconstructor_state.specs.declared.VenueRules.{VenueRules}
-use Rattle.reconstructor_state.specs.State.{ceiling, Lengths, lastOf}
+use Rattle.reconstructor_state.specs.State.{Lengths, lastOf}
 use Rattle.reconstructor_checks.specs.StateChecks.{overCeiling, memoryShort, bookRefusal}
 use Rattle.reconstructor_bootstrap.specs.Snapshot.{snapshotLine}
 use Rattle.reconstructor_view.specs.declared.SequenceAnswer.the-variants as sequences
@@ -83,111 +84,112 @@ figuresOf s ps f = map (λ (p : ℕ). (p, f s p)) ps
 -- ---- the reads
 
 -- 1 and 2 do not arise: limits within the ceiling, and so much memory and scratch
-pub record Enough (v : VenueRules) (lent : Extent) (scratch : ℕ) : Type 0 where
-  pub within : overCeiling ceiling v ≡ false
+pub record Enough (top : ℕ) (v : VenueRules) (lent : Extent) (scratch : ℕ) : Type 0 where
+  pub within : overCeiling top v ≡ false
   pub memory : memoryShort v lent ≡ false
   pub room : v .«max_orders» ≤ scratch
 
 -- the number of a read of an invalid book: 1, 2, then 18; `short` says that too little scratch is lent
-abbrev pub invalidNumber : VenueRules → Extent → Bool → ℕ
-invalidNumber v lent short = cond (overCeiling ceiling v) 1 (cond (memoryShort v lent || short) 2 18)
+abbrev pub invalidNumber : ℕ → VenueRules → Extent → Bool → ℕ
+invalidNumber top v lent short = cond (overCeiling top v) 1 (cond (memoryShort v lent || short) 2 18)
 
 -- "every read is turned away save the stale one": each of 01's reads of the book by exactly that number, whatever it is asked and lent beside these rows. (The invalidation in
 -- force and a segment's record are fields of the state and of the list, and answer in any standing.)
-pub record TurnedAway (v : VenueRules) (b : BookReconstructor) (mem : Memory) : Type 0 where
-  pub last-sequence : sequenceTold (lastSequence ceiling b mem) .number ≡ invalidNumber v (extentOf mem) false
-  pub best : bestTold (bestRead ceiling b mem) .number ≡ invalidNumber v (extentOf mem) false
-  pub audit : auditedTold (auditRead ceiling b mem) .number ≡ invalidNumber v (extentOf mem) false
+pub record TurnedAway (top : ℕ) (v : VenueRules) (b : BookReconstructor) (mem : Memory) : Type 0 where
+  pub last-sequence : sequenceTold (lastSequence top b mem) .number ≡ invalidNumber top v (extentOf mem) false
+  pub best : bestTold (bestRead top b mem) .number ≡ invalidNumber top v (extentOf mem) false
+  pub audit : auditedTold (auditRead top b mem) .number ≡ invalidNumber top v (extentOf mem) false
   pub level-queue : (sc : List ℕ) (s : L3Side) (z : ℤ) (out : List ℕ)
-      → levelTold (levelQueue ceiling b mem sc s z out .answer) .number ≡ invalidNumber v (extentOf mem) (ltb (length sc) (v .«max_orders»))
+      → levelTold (levelQueue top b mem sc s z out .answer) .number ≡ invalidNumber top v (extentOf mem) (ltb (length sc) (v .«max_orders»))
   pub priority-profile : (sc : List ℕ) (s : L3Side) (out : List ℕ)
-      → levelTold (priorityProfile ceiling b mem sc s out .answer) .number ≡ invalidNumber v (extentOf mem) (ltb (length sc) (v .«max_orders»))
+      → levelTold (priorityProfile top b mem sc s out .answer) .number ≡ invalidNumber top v (extentOf mem) (ltb (length sc) (v .«max_orders»))
   pub level-volumes : (sc : List ℕ) (s : L3Side) (out : List ℕ)
-      → levelTold (l2 ceiling b mem sc s out .answer) .number ≡ invalidNumber v (extentOf mem) (ltb (length sc) (v .«max_orders»))
-  pub queue-estimate : (s : L3Side) (z : ℤ) (ahead : List ℕ) → estimateTold (queueEstimate ceiling b mem s z ahead .answer) .number ≡ invalidNumber v (extentOf mem) false
-  pub queue-estimate-own : (d : OrderId) → estimateTold (queueEstimateOwn ceiling b mem d) .number ≡ invalidNumber v (extentOf mem) false
-  pub volume-ahead : (q : QueueEstimate) (ahead : List ℕ) → aheadTold (volumeAhead ceiling b mem q ahead) .number ≡ invalidNumber v (extentOf mem) false
+      → levelTold (l2 top b mem sc s out .answer) .number ≡ invalidNumber top v (extentOf mem) (ltb (length sc) (v .«max_orders»))
+  pub queue-estimate : (s : L3Side) (z : ℤ) (ahead : List ℕ) → estimateTold (queueEstimate top b mem s z ahead .answer) .number ≡ invalidNumber top v (extentOf mem) false
+  pub queue-estimate-own : (d : OrderId) → estimateTold (queueEstimateOwn top b mem d) .number ≡ invalidNumber top v (extentOf mem) false
+  pub volume-ahead : (q : QueueEstimate) (ahead : List ℕ) → aheadTold (volumeAhead top b mem q ahead) .number ≡ invalidNumber top v (extentOf mem) false
 
 -- what is read of a book, lent the front of its memory and any scratch and output
-pub record Readings (v : VenueRules) (w : World) (l : Ledger) : Type 0 where
+pub record Readings (top : ℕ) (v : VenueRules) (w : World) (l : Ledger) : Type 0 where
   -- "the queue and profile reads .. give exactly these where asked"
   pub queue-read : (n : Extent) (sc : List ℕ) (s : L3Side) (z : ℤ) (out : List ℕ) (k : ℕ)
-      → levelQueue ceiling (w .book) (front n (w .memory)) sc s z out .answer ≡ levels.Shown (Entries k)
-      → queueSaid (take (queueWords * k) (levelQueue ceiling (w .book) (front n (w .memory)) sc s z out .out)) ≡ queue s (natOf z) (l .view .line)
+      → levelQueue top (w .book) (front n (w .memory)) sc s z out .answer ≡ levels.Shown (Entries k)
+      → queueSaid (take (queueWords * k) (levelQueue top (w .book) (front n (w .memory)) sc s z out .out)) ≡ queue s (natOf z) (l .view .line)
   pub profile-read : (n : Extent) (sc : List ℕ) (s : L3Side) (out : List ℕ) (k : ℕ)
-      → priorityProfile ceiling (w .book) (front n (w .memory)) sc s out .answer ≡ levels.Shown (Entries k)
-      → profileSaid (take (profileWords * k) (priorityProfile ceiling (w .book) (front n (w .memory)) sc s out .out)) ≡ figuresOf s (prices s (l .view .line)) (l .figure)
+      → priorityProfile top (w .book) (front n (w .memory)) sc s out .answer ≡ levels.Shown (Entries k)
+      → profileSaid (take (profileWords * k) (priorityProfile top (w .book) (front n (w .memory)) sc s out .out)) ≡ figuresOf s (prices s (l .view .line)) (l .figure)
   -- "unless 01's table turns them away": where it names nothing they answer, with the number of orders and of levels
-  pub queue-answers : ledgerStanding l ≡ valid → (n : Extent) (sc : List ℕ) → Enough v (extentOf (front n (w .memory))) (length sc) → (s : L3Side) (z : ℤ) (out : List ℕ)
+  pub queue-answers : ledgerStanding l ≡ valid → (n : Extent) (sc : List ℕ) → Enough top v (extentOf (front n (w .memory))) (length sc) → (s : L3Side) (z : ℤ) (out : List ℕ)
       → queueWords * length (queue s (natOf z) (l .view .line)) ≤ length out
-      → levelQueue ceiling (w .book) (front n (w .memory)) sc s z out .answer ≡ levels.Shown (Entries (length (queue s (natOf z) (l .view .line))))
-  pub profile-answers : ledgerStanding l ≡ valid → (n : Extent) (sc : List ℕ) → Enough v (extentOf (front n (w .memory))) (length sc) → (s : L3Side) (out : List ℕ)
+      → levelQueue top (w .book) (front n (w .memory)) sc s z out .answer ≡ levels.Shown (Entries (length (queue s (natOf z) (l .view .line))))
+  pub profile-answers : ledgerStanding l ≡ valid → (n : Extent) (sc : List ℕ) → Enough top v (extentOf (front n (w .memory))) (length sc) → (s : L3Side) (out : List ℕ)
       → profileWords * length (prices s (l .view .line)) ≤ length out
-      → priorityProfile ceiling (w .book) (front n (w .memory)) sc s out .answer ≡ levels.Shown (Entries (length (prices s (l .view .line))))
+      → priorityProfile top (w .book) (front n (w .memory)) sc s out .answer ≡ levels.Shown (Entries (length (prices s (l .view .line))))
   -- and so does the last sequence, with the ledger's
-  pub last-answers : ledgerStanding l ≡ valid → (n : Extent) → Enough v (extentOf (front n (w .memory))) (v .«max_orders»)
-      → lastSequence ceiling (w .book) (front n (w .memory)) ≡ sequences.Valid (lastOf (l .view .status))
+  pub last-answers : ledgerStanding l ≡ valid → (n : Extent) → Enough top v (extentOf (front n (w .memory))) (v .«max_orders»)
+      → lastSequence top (w .book) (front n (w .memory)) ≡ sequences.Valid (lastOf (l .view .status))
   -- "From the message that invalidated the book to the next accepted snapshot": the ledger is invalid
-  pub turned-away : ledgerStanding l ≡ invalid → (n : Extent) → TurnedAway v (w .book) (front n (w .memory))
+  pub turned-away : ledgerStanding l ≡ invalid → (n : Extent) → TurnedAway top v (w .book) (front n (w .memory))
   -- the stale one: what it shows are the ledger's figures, which 20 to 44 leave as they stood
   pub stale-read : (n : Extent) (sc : List ℕ) (s : L3Side) (out : List ℕ) (k : ℕ)
-      → staleL2 ceiling (w .book) (front n (w .memory)) sc s out .answer ≡ stales.Shown (Entries k)
-      → l2Said (take (l2Words * k) (staleL2 ceiling (w .book) (front n (w .memory)) sc s out .out)) ≡ figuresOf s (prices s (l .view .line)) (l .figure)
-  pub stale-answers : ledgerStanding l ≡ invalid → (n : Extent) (sc : List ℕ) → Enough v (extentOf (front n (w .memory))) (length sc) → (s : L3Side) (out : List ℕ)
+      → staleL2 top (w .book) (front n (w .memory)) sc s out .answer ≡ stales.Shown (Entries k)
+      → l2Said (take (l2Words * k) (staleL2 top (w .book) (front n (w .memory)) sc s out .out)) ≡ figuresOf s (prices s (l .view .line)) (l .figure)
+  pub stale-answers : ledgerStanding l ≡ invalid → (n : Extent) (sc : List ℕ) → Enough top v (extentOf (front n (w .memory))) (length sc) → (s : L3Side) (out : List ℕ)
       → l2Words * length (prices s (l .view .line)) ≤ length out
-      → staleL2 ceiling (w .book) (front n (w .memory)) sc s out .answer ≡ stales.Shown (Entries (length (prices s (l .view .line))))
+      → staleL2 top (w .book) (front n (w .memory)) sc s out .answer ≡ stales.Shown (Entries (length (prices s (l .view .line))))
 
 -- the stale one "gives exactly the volumes that stood before that message"
-abbrev pub StaleReading : World → World → Type 0
-StaleReading w x =
-    (n : Extent) (sc : List ℕ) (s : L3Side) (out : List ℕ) (k : ℕ) → staleL2 ceiling (w .book) (front n (w .memory)) sc s out .answer ≡ stales.Shown (Entries k)
-    → l2Said (take (l2Words * k) (staleL2 ceiling (w .book) (front n (w .memory)) sc s out .out)) ≡ figuresOf s (prices s (lineAt x)) (λ (t : L3Side) (p : ℕ). volumeAt t p x)
+abbrev pub StaleReading : ℕ → World → World → Type 0
+StaleReading top w x =
+    (n : Extent) (sc : List ℕ) (s : L3Side) (out : List ℕ) (k : ℕ) → staleL2 top (w .book) (front n (w .memory)) sc s out .answer ≡ stales.Shown (Entries k)
+    → l2Said (take (l2Words * k) (staleL2 top (w .book) (front n (w .memory)) sc s out .out)) ≡ figuresOf s (prices s (lineAt x)) (λ (t : L3Side) (p : ℕ). volumeAt t p x)
 
 -- an invalid book's calls: those before the invalidating one, that one, and those since, of which none counted; what rests is what stood before that message
-pub record WhenInvalid (c : Config) (start : World) (ks : List Call) : Type 0 where
+pub record WhenInvalid (top : ℕ) (c : Config) (start : World) (ks : List Call) : Type 0 where
   pub before : List Call
   pub bad : Call
   pub after : List Call
   pub parts : ks ≡ before ++ (bad ∷ after)
-  pub stood : standingAt (run start before) ≡ valid
-  pub fell : standingAt (run start (before ++ (bad ∷ []))) ≡ invalid
+  pub stood : standingAt (run top start before) ≡ valid
+  pub fell : standingAt (run top start (before ++ (bad ∷ []))) ≡ invalid
   -- no snapshot is accepted since: the first n calls after it, however many, leave the book invalid
-  pub since : (n : ℕ) → standingAt (run start (before ++ (bad ∷ take n after))) ≡ invalid
-  pub nothing : kept c ks ≡ kept c before
-  pub stale : Alike (run start ks) (run start before)
-  pub stale-read : StaleReading (run start ks) (run start before)
+  pub since : (n : ℕ) → standingAt (run top start (before ++ (bad ∷ take n after))) ≡ invalid
+  pub nothing : kept top c ks ≡ kept top c before
+  pub stale : Alike (run top start ks) (run top start before)
+  pub stale-read : StaleReading top (run top start ks) (run top start before)
 
 -- "a fresh book with the same product and rules": its number is any
 abbrev pub numbered : Config → ℕ → Config
 numbered c k = record { product = c .product; rules = c .rules; number = k }
 
--- the calls `ks` on a fresh book of the product, rules and number `c`, with any memory `mem` and records `sg`
-pub record SumRule (c : Config) (mem : Memory) (sg : List Segment) (ks : List Call) : Type 0 where
+-- the calls `ks` under the ceiling `top` on a fresh book of the product, rules and number `c`, with any memory `mem` and records `sg`
+pub record SumRule (top : ℕ) (c : Config) (mem : Memory) (sg : List Segment) (ks : List Call) : Type 0 where
   -- "the volume resting at each side and price equals the figure in 01's ledger, worked out from the calls alone"
-  pub volumes : (s : L3Side) (p : ℕ) → volumeAt s p (run (freshWorld c mem sg) ks) ≡ feedAll c fresh ks .figure s p
+  pub volumes : (s : L3Side) (p : ℕ) → volumeAt s p (run top (freshWorld c mem sg) ks) ≡ feedAll top c fresh ks .figure s p
   -- "The queue order there equals the ledger's."
-  pub queues : (s : L3Side) (p : ℕ) → queueAt s p (run (freshWorld c mem sg) ks) ≡ queue s p (feedAll c fresh ks .view .line)
+  pub queues : (s : L3Side) (p : ℕ) → queueAt s p (run top (freshWorld c mem sg) ks) ≡ queue s p (feedAll top c fresh ks .view .line)
   -- the rest of what the ledger holds
-  pub stands : Stand (run (freshWorld c mem sg) ks) (feedAll c fresh ks)
+  pub stands : Stand (run top (freshWorld c mem sg) ks) (feedAll top c fresh ks)
   -- each of the twelve counts is the number of calls so far that 01 counts there, up to 2^64−1
-  pub counts : run (freshWorld c mem sg) ks .book .counts ≡ countsBy (λ (i : Counter). upTo (timesIn c blank ks i))
+  pub counts : run top (freshWorld c mem sg) ks .book .counts ≡ countsBy (λ (i : Counter). upTo (timesIn top c blank ks i))
   -- 01, Values in the domain: "A level sum never exceeds 4.096 × 10^18"
-  pub bound : (s : L3Side) (p : ℕ) → feedAll c fresh ks .figure s p ≤ 4096000000000000000
+  pub bound : (s : L3Side) (p : ℕ) → feedAll top c fresh ks .figure s p ≤ 4096000000000000000
   -- and none on the way in a snapshot that reads and has no more than 4,096 orders, accepted or refused later: those of its first n orders
-  pub on-the-way : (bytes : List ℕ) (x : L3Snapshot) → readSnapshot bytes ≡ Snapshot x → x .bids + x .asks ≤ ceiling → (n : ℕ) (s : L3Side) (p : ℕ)
+  pub on-the-way : (bytes : List ℕ) (x : L3Snapshot) → readSnapshot bytes ≡ Snapshot x → x .bids + x .asks ≤ mostRows → (n : ℕ) (s : L3Side) (p : ℕ)
       → volume s p (take n (snapshotLine x bytes)) ≤ 4096000000000000000
   -- "Both equal those of a fresh book with the same product and rules fed that snapshot and the messages accepted since", any words and records in its memory,
   -- lent as much at each call
-  pub afresh : (k : ℕ) (mem′ : Memory) (sg′ : List Segment) → Lendable (extentOf mem′) (length sg′) (kept c ks)
-      → Alike (run (freshWorld c mem sg) ks) (run (freshWorld (numbered c k) mem′ sg′) (kept c ks))
+  pub afresh : (k : ℕ) (mem′ : Memory) (sg′ : List Segment) → Lendable (extentOf mem′) (length sg′) (kept top c ks)
+      → Alike (run top (freshWorld c mem sg) ks) (run top (freshWorld (numbered c k) mem′ sg′) (kept top c ks))
   -- "the volumes that stood before that message" are those that rest, and that the stale read gives
-  pub when-invalid : ledgerStanding (feedAll c fresh ks) ≡ invalid → WhenInvalid c (freshWorld c mem sg) ks
+  pub when-invalid : ledgerStanding (feedAll top c fresh ks) ≡ invalid → WhenInvalid top c (freshWorld c mem sg) ks
   -- 01, The ledger: "3 never arises here", whatever the next call is lent
   pub never-three : (n : Lengths) → Fits (extentOf mem) (length sg) n
-      → bookRefusal ceiling (run (freshWorld c mem sg) ks .book) (lentMemory n (run (freshWorld c mem sg) ks)) (length (lentSegments n (run (freshWorld c mem sg) ks))) ≡ some MalformedBook → ⊥
+      → bookRefusal top (run top (freshWorld c mem sg) ks .book) (lentMemory n (run top (freshWorld c mem sg) ks)) (length (lentSegments n (run top (freshWorld c mem sg) ks))) ≡ some MalformedBook → ⊥
   -- the reads of that book
-  pub reads : Readings (c .rules) (run (freshWorld c mem sg) ks) (feedAll c fresh ks)
+  pub reads : Readings top (c .rules) (run top (freshWorld c mem sg) ks) (feedAll top c fresh ks)
 
--- the one claim: "any list of calls on one book .. from a fresh one", of any product, rules and number, with anything in its memory, each call lent no more than there is
+-- the one claim: "any list of calls on one book .. from a fresh one", of any product, rules and number, with anything in its memory, each call lent no more than there is,
+-- under any ceiling of the limits up to 4,096: ours is `ceiling`, and no fact of the rule names it
 abbrev pub Demand3 : Type 0
-Demand3 = (c : Config) (mem : Memory) (sg : List Segment) (ks : List Call) → Lendable (extentOf mem) (length sg) ks → SumRule c mem sg ks
+Demand3 = (top : ℕ) → top ≤ mostRows → (c : Config) (mem : Memory) (sg : List Segment) (ks : List Call) → Lendable (extentOf mem) (length sg) ks → SumRule top c mem sg ks

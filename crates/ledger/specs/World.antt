@@ -9,7 +9,7 @@ use Rattle.book.specs.Line.{Entry, volume, queue}
 use Rattle.book.specs.Memory.{Memory, Extent, front, behind, Within, lineIn}
 use Rattle.reconstructor_segments.specs.declared.Segment.{Segment}
 use Rattle.reconstructor_state.specs.declared.BookReconstructor.{BookReconstructor}
-use Rattle.reconstructor_state.specs.State.{ceiling, Lengths, newBook}
+use Rattle.reconstructor_state.specs.State.{Lengths, newBook}
 use Rattle.reconstructor.specs.Applied.{applied}
 use Rattle.reconstructor_bootstrap.specs.Bootstrap.{bootstrapped}
 use Rattle.reconstructor_handshake.specs.Step.{stepped}
@@ -32,23 +32,23 @@ lentSegments n w = take (n .segments) (w .segments)
 abbrev pub back : Lengths → World → BookReconstructor → Memory → List Segment → World
 back n w b mem sg = record { book = b; memory = behind (n .memory) (w .memory) mem; segments = sg ++ drop (n .segments) (w .segments) }
 
-unfoldable pub perform : World → Call → World
-perform w (bootstrap n bytes) =
-    back n w (bootstrapped ceiling (w .book) (lentMemory n w) (lentSegments n w) bytes .book)
-    (bootstrapped ceiling (w .book) (lentMemory n w) (lentSegments n w) bytes .memory)
-    (bootstrapped ceiling (w .book) (lentMemory n w) (lentSegments n w) bytes .segments)
-perform w (apply n m) =
-    back n w (applied ceiling (w .book) (lentMemory n w) (lentSegments n w) m .book) (applied ceiling (w .book) (lentMemory n w) (lentSegments n w) m .memory)
-    (applied ceiling (w .book) (lentMemory n w) (lentSegments n w) m .segments)
-perform w (step n h m) =
-    back n w (stepped ceiling h (w .book) (lentMemory n w) (lentSegments n w) m .book) (stepped ceiling h (w .book) (lentMemory n w) (lentSegments n w) m .memory)
-    (stepped ceiling h (w .book) (lentMemory n w) (lentSegments n w) m .segments)
+unfoldable pub perform : ℕ → World → Call → World
+perform top w (bootstrap n bytes) =
+    back n w (bootstrapped top (w .book) (lentMemory n w) (lentSegments n w) bytes .book)
+    (bootstrapped top (w .book) (lentMemory n w) (lentSegments n w) bytes .memory)
+    (bootstrapped top (w .book) (lentMemory n w) (lentSegments n w) bytes .segments)
+perform top w (apply n m) =
+    back n w (applied top (w .book) (lentMemory n w) (lentSegments n w) m .book) (applied top (w .book) (lentMemory n w) (lentSegments n w) m .memory)
+    (applied top (w .book) (lentMemory n w) (lentSegments n w) m .segments)
+perform top w (step n h m) =
+    back n w (stepped top h (w .book) (lentMemory n w) (lentSegments n w) m .book) (stepped top h (w .book) (lentMemory n w) (lentSegments n w) m .memory)
+    (stepped top h (w .book) (lentMemory n w) (lentSegments n w) m .segments)
 -- a read is lent the memory and what it writes to, and changes none of these
-perform w (read q) = w
+perform top w (read q) = w
 
-abbrev pub run : World → List Call → World
-run w [] = w
-run w (k ∷ ks) = run (perform w k) ks
+abbrev pub run : ℕ → World → List Call → World
+run top w [] = w
+run top w (k ∷ ks) = run top (perform top w k) ks
 
 -- any words and records in its memory
 abbrev pub freshWorld : Config → Memory → List Segment → World
