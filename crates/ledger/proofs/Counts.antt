@@ -22,7 +22,7 @@ use Rattle.reconstructor_counts.specs.Counts.{largest, saturated, raisedAt, pla
 use Rattle.reconstructor_segments.specs.declared.Segment.{Segment}
 use Rattle.reconstructor_segments.specs.Segments.{lastSegment}
 use Rattle.reconstructor_state.specs.declared.BookReconstructor.{BookReconstructor}
-use Rattle.reconstructor_state.specs.State.{View, Lengths, lengthsOf, lastOf, segmentOf}
+use Rattle.reconstructor_state.specs.State.{View, Lengths, lastOf, segmentOf}
 use Rattle.reconstructor_state.proofs.Checks.{fails, goes-on, first-fails, first-on}
 use Rattle.reconstructor_checks.specs.StateChecks.{Usable, overCeiling, tooShort}
 use Rattle.reconstructor_plan.specs.Rules.{eventDeed}
@@ -41,7 +41,7 @@ use Rattle.reconstructor_handshake.proofs.Step.{unusable-step, other-step, out-
 use Rattle.ledger.specs.Ledger.{Config, Call, Read as Asked, bootstrap, apply, step, read, blank, feedView}
 use Rattle.ledger.specs.World.{World, lentMemory, lentSegments, perform, run, Fits, Lendable, freshWorld}
 use Rattle.ledger.specs.Counts.{answerPlace, messagePlace, snapshotPlace, applyPlace, placeIn, hit, timesIn, upTo, countsBy}
-use Rattle.ledger.proofs.Stands.{configOf, seen, Starts, own-none, boot-same, same-start}
+use Rattle.ledger.proofs.Stands.{lengthsOf, configOf, seen, Starts, own-none, boot-same, same-start}
 use Rattle.ledger.proofs.Follow.{Follows, early, early-own, early-applied, early-refusal, lengths-are, same-view, usable-now, starts-now, boot-follows, apply-follows, step-follows, fresh-follows}
 
 -- ---- one more, up to 2^64−1

@@ -25,7 +25,7 @@ use Rattle.reconstructor_segments.specs.Segments.{lastSegment}
 use Rattle.reconstructor_segments.proofs.Last.{last-front}
 use Rattle.reconstructor_state.specs.declared.VenueRules.{VenueRules}
 use Rattle.reconstructor_state.specs.declared.BookReconstructor.{BookReconstructor}
-use Rattle.reconstructor_state.specs.State.{View, Lengths, lengthsOf, newBook}
+use Rattle.reconstructor_state.specs.State.{View, Lengths, newBook}
 use Rattle.reconstructor_state.proofs.Checks.{fails, goes-on, first-fails}
 use Rattle.reconstructor_checks.specs.StateChecks.{Usable, broken, overCeiling, memoryShort, tooShort, stateRefusal, bookRefusal}
 use Rattle.reconstructor_checks.proofs.StateChecks.{sound, memory-room, usable-none}
@@ -42,7 +42,7 @@ use Rattle.reconstructor_handshake.specs.Step.{stepRefusal, stepped}
 use Rattle.reconstructor_handshake.proofs.Step.{unusable-step}
 use Rattle.ledger.specs.Ledger.{Config, Call, bootstrap, apply, step, read, blank, refused, settle, applyOutcome, stepSettle, stepOutcome, bootOutcome, viewBy, viewBoot, feedView}
 use Rattle.ledger.specs.World.{World, lentMemory, lentSegments, back, perform, run, Fits, Lendable, freshWorld, lineAt}
-use Rattle.ledger.proofs.Stands.{seen, Starts, Stands, rows-front, apply-stands, step-stands, boot-stands}
+use Rattle.ledger.proofs.Stands.{lengthsOf, seen, Starts, Stands, rows-front, apply-stands, step-stands, boot-stands}
 use Rattle.ledger.proofs.Left.{Left, apply-left, step-left, boot-left}
 
 -- the views of all calls, one after the other

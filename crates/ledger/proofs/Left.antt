@@ -9,7 +9,7 @@ use mathlib.Core.Option.{Option, none, some}
 use lib.ListN.{length, length-map, length-set}
 use Rattle.message.specs.declared.L3Message.{L3Message}
 use Rattle.message.specs.Values.{eventInRange}
-use Rattle.book.specs.Rows.{snapshotRow}
+use Rattle.book.specs.Rows.{rowWords, snapshotRow}
 use Rattle.book.specs.Memory.{Memory, lineIn, ordersOf, ordersBy}
 use Rattle.book.proofs.Stored.{length-stored}
 use Rattle.reconstructor_answers.specs.declared.ApplyAnswer.{ApplyAnswer}
@@ -36,7 +36,7 @@ use Rattle.reconstructor_handshake.proofs.Step.{other-step, out-of-range-step, 
 pub record Left (mem : Memory) (sg : List Segment) (b : BookReconstructor) (after : Memory) (tg : List Segment) : Type 0 where
   pub rows : length (after .rows) ≡ length (mem .rows)
   pub segments : length tg ≡ length sg
-  pub room : 8 * b .rows ≤ length (after .rows)
+  pub room : rowWords * b .rows ≤ length (after .rows)
   pub listed : b .segments ≤ length tg
 
 left-same : (top : ℕ) (b c : BookReconstructor) (mem : Memory) (sg : List Segment) → Usable top b mem (length sg) → c .rows ≡ b .rows → c .segments ≡ b .segments → Left mem sg c mem sg

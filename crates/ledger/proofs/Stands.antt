@@ -14,7 +14,7 @@ use lib.Seq.{getD-set-same}
 use Rattle.laws.proofs.Bools.{or-no}
 use Rattle.message.specs.declared.L3Message.{L3Message}
 use Rattle.book.specs.Line.{Entry}
-use Rattle.book.specs.Rows.{rowAt, rowsOf, lineOf, stored, snapshotRow}
+use Rattle.book.specs.Rows.{rowWords, rowAt, rowsOf, lineOf, stored, snapshotRow}
 use Rattle.book.specs.Memory.{Memory, lineIn}
 use Rattle.book.proofs.Rows.{row-same, rows-same}
 use Rattle.book.proofs.Stored.{rows-stored}
@@ -28,7 +28,7 @@ use Rattle.reconstructor_segments.proofs.Last.{length-relast, relast-same}
 use Rattle.reconstructor_state.specs.declared.Status.the-variants.{Valid}
 use Rattle.reconstructor_state.specs.declared.VenueRules.{VenueRules}
 use Rattle.reconstructor_state.specs.declared.BookReconstructor.{BookReconstructor}
-use Rattle.reconstructor_state.specs.State.{View, viewOf, viewWith, lengthsWith, lengthsOf, lastOf, withCounts}
+use Rattle.reconstructor_state.specs.State.{View, viewWith, Lengths, lengthsWith, lastOf, withCounts}
 use Rattle.reconstructor_state.proofs.Checks.{fails, goes-on, first-on}
 use Rattle.reconstructor_checks.specs.StateChecks.{Usable, broken, stateRefusal}
 use Rattle.reconstructor_checks.proofs.StateChecks.{usable-none}
@@ -51,6 +51,13 @@ use Rattle.reconstructor_handshake.specs.declared.Handshake.{Handshake}
 use Rattle.reconstructor_handshake.specs.Step.{StepParts, otherSegment, stepRefusal, drops, stepped}
 use Rattle.reconstructor_handshake.proofs.Step.{other-step, out-of-range-step, dropped-step, decided-step}
 use Rattle.ledger.specs.Ledger.{Config, Outcome, refused, invalidates, dropped, accepted, settle, applyOutcome, stepSettle, stepOutcome, bootOutcome, viewBy, viewBoot, snapView}
+
+-- what a state shows, and how much it is lent, with a list of records
+abbrev viewOf : BookReconstructor → Memory → List Segment → View
+viewOf b mem sg = viewWith b mem (lastSegment sg (b .segments))
+
+abbrev pub lengthsOf : Memory → List Segment → Lengths
+lengthsOf mem sg = lengthsWith mem (length sg)
 
 abbrev pub configOf : BookReconstructor → Config
 configOf b = record { product = b .«product_id»; rules = b .rules; number = b .number }
@@ -80,10 +87,10 @@ start-kept r m accepted w = refl
 
 -- ---- a prefix that is long enough has the same rows
 
-row-front : (a b : List ℕ) (i : ℕ) → 8 * i + 8 ≤ length a → rowAt (a ++ b) i ≡ rowAt a i
-row-front a b i h = row-same (a ++ b) a i i (λ f q. List·getD-append a b 0 (8 * i + f) (omega arith))
+row-front : (a b : List ℕ) (i : ℕ) → rowWords * i + rowWords ≤ length a → rowAt (a ++ b) i ≡ rowAt a i
+row-front a b i h = row-same (a ++ b) a i i (λ f q. List·getD-append a b 0 (rowWords * i + f) (omega arith))
 
-pub rows-front : (a b : List ℕ) (n : ℕ) → 8 * n ≤ length a → rowsOf (a ++ b) n ≡ rowsOf a n
+pub rows-front : (a b : List ℕ) (n : ℕ) → rowWords * n ≤ length a → rowsOf (a ++ b) n ≡ rowsOf a n
 rows-front a b n h = rows-same (a ++ b) a 0 0 n (λ f q. row-front a b (0 + f) (omega arith))
 
 -- ---- a record replaced by one of its start keeps the start; past the end nothing is replaced

@@ -1,7 +1,6 @@
 -- The state by value, and the view of it that the rules go by.
 use Prim.Native.Nat.{ℕ, _-_}
 use mathlib.Core.List.{List}
-use lib.ListN.{length}
 use Rattle.message.specs.declared.ProductId.{ProductId}
 use Rattle.book.specs.Line.{Entry}
 use Rattle.book.specs.Memory.{Memory, Extent, extentOf, lineIn}
@@ -14,7 +13,6 @@ use Rattle.reconstructor_state.specs.declared.BookReconstructor.{BookRec
 use Rattle.reconstructor_counts.specs.Counts.{noCounts}
 use Rattle.reconstructor_segments.specs.declared.Segment.{Segment}
 use Rattle.reconstructor_segments.specs.declared.SegmentName.{SegmentName}
-use Rattle.reconstructor_segments.specs.Segments.{lastSegment}
 
 -- 1: "an order or level limit above 4,096"
 abbrev pub ceiling : ℕ
@@ -60,12 +58,9 @@ pub record View : Type 0 where
   pub segments : ℕ
   pub line : List Entry
 
--- what a state shows of it with lent memory, the last segment's record being g; and with a lent segment list
+-- what a state shows of it with lent memory, the last segment's record being g
 abbrev pub viewWith : BookReconstructor → Memory → Segment → View
 viewWith b mem g = record { status = b .status; startSeq = g .«start_seq»; segments = b .segments; line = lineIn mem (b .rows) }
-
-abbrev pub viewOf : BookReconstructor → Memory → List Segment → View
-viewOf b mem sg = viewWith b mem (lastSegment sg (b .segments))
 
 -- how much a call is lent: of the memory, and segment records
 pub record Lengths : Type 0 where
@@ -74,6 +69,3 @@ pub record Lengths : Type 0 where
 
 abbrev pub lengthsWith : Memory → ℕ → Lengths
 lengthsWith mem lent = record { memory = extentOf mem; segments = lent }
-
-abbrev pub lengthsOf : Memory → List Segment → Lengths
-lengthsOf mem sg = lengthsWith mem (length sg)
