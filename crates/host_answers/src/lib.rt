@@ -1,7 +1,7 @@
 // The answers of the reads as numbers and words. specs/Answers.antt says what is written where; the layouts are beside the answers' enums.
 use book::BestPrice;
 use host_words::kind_words;
-use host_words::put;
+use laws::put;
 use reconstructor_reads::LevelAnswer;
 use reconstructor_reads::Shown;
 use reconstructor_reads::StaleAnswer;

@@ -1,6 +1,6 @@
 // A handshake as words. specs/Steps.antt has the layout.
-use host_words::put;
 use host_words::sets_status;
+use laws::put;
 use reconstructor_handshake::Handshake;
 use reconstructor_handshake::StepAnswer;
 use reconstructor_segments::SegmentName;

@@ -2,7 +2,7 @@
 use host_messages::event_words;
 use host_messages::kind_word;
 use host_words::bits;
-use host_words::put;
+use laws::put;
 use piece::MESSAGE_WORDS;
 use piece::ReadMessage;
 use piece::ReadSnapshot;

@@ -1,4 +1,5 @@
 // A segment list as words, eight a record: the form in which C lends it. What `reconstructor_segments` does on a slice of records is done here on their words.
+use laws::put;
 use reconstructor_segments::Segment;
 ghost use mathlib.Core.Path.{_≡_};
 ghost use Prim.Native.Nat.{_+_, _*_, _≤_};
@@ -32,15 +33,20 @@ fn set_record(words: &mut [u64], i: usize, segment: Segment)
     requires { ⌜ recordWords * i + recordWords ≤ length (now words) ⌝ }
     ensures { λ _. ⌜ now (words .exit) ≡ setRecord (now (words .entry)) i segment ⌝ }
 {
-    let at = RECORD_WORDS * i;
-    words[at] = segment.start_seq;
-    words[at + 1] = segment.last_good_seq;
-    words[at + 2] = segment.end;
-    words[at + 3] = segment.end_good;
-    words[at + 4] = segment.end_seq;
-    words[at + 5] = segment.end_detail;
-    words[at + 6] = segment.first_us;
-    words[at + 7] = segment.last_us;
+    put(
+        words,
+        RECORD_WORDS * i,
+        &[
+            segment.start_seq,
+            segment.last_good_seq,
+            segment.end,
+            segment.end_good,
+            segment.end_seq,
+            segment.end_detail,
+            segment.first_us,
+            segment.last_us,
+        ],
+    );
 }
 
 // The record at a place; zeros where there is none.

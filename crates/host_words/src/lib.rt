@@ -1,4 +1,5 @@
 // A state from its block and as a block, and the values that words are made of; specs/Block.antt has the layouts. Crate `host_messages` has a message's words.
+use laws::put;
 use message::L3Side;
 use message::ProductId;
 use reconstructor_answers::ApplyAnswer;
@@ -43,18 +44,6 @@ pub fn side_word(side: L3Side) -> u64
     match side {
         L3Side::Buy => 0,
         L3Side::Sell => 1,
-    }
-}
-
-// Writes `words` from place `at` on.
-pub fn put(out: &mut [u64], at: usize, words: &[u64])
-    requires { ⌜ at + length (now words) ≤ length (now out) ⌝ }
-    ensures { λ _. ⌜ now (out .exit) ≡ take at (now (out .entry)) ++ now (words .entry) ++ drop (at + length (now (words .entry))) (now (out .entry)) ⌝ }
-{
-    let mut i: usize = 0;
-    while i < words.len() {
-        out[at + i] = words[i];
-        i += 1;
     }
 }
 

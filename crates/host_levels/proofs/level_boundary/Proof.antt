@@ -8,7 +8,7 @@ use Rattle.host_levels.proofs.level_boundary.Tie as tie
 returns : tie.Need-returns
 returns c =
     let k-start = c .before .before .before .before in
-    c .boundary .ensures ∙ ap₂ (λ (x y : Bool). boundary (k-start .args .state .now) (k-start .args .rows) x false y) (c .before .before .scratch-short .ensures) (c .before .no-bit .ensures)
+    c .boundary .ensures ∙ ap₂ (λ (x y : Bool). boundary (k-start .args .state .now) (record { rows = k-start .args .rows }) x false y) (c .before .before .scratch-short .ensures) (c .before .no-bit .ensures)
 
 pub level-boundary-spec : {M : Type 1} → statement M
 level-boundary-spec =

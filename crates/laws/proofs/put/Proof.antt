@@ -7,8 +7,8 @@ use lib.ListN.{length, length-set}
 use lib.Seq.{paste, paste-zero, paste-suc, take-length}
 use denote.Ref.{now}
 use borrow.Author.Needs.{needs}
-use Rattle.host_words.proofs.put.Statement.{statement}
-use Rattle.host_words.proofs.put.Tie as tie
+use Rattle.laws.proofs.put.Statement.{statement}
+use Rattle.laws.proofs.put.Tie as tie
 
 abbrev Inv-loop : tie.InvT-loop
 Inv-loop out₀ at words i₀ out i = (i ≤ length words) × (out ≡ paste out₀ at words i) × (length out ≡ length out₀)
