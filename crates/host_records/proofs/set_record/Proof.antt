@@ -5,7 +5,7 @@ use Rattle.host_records.proofs.set_record.Tie as tie
 
 returns : tie.Need-returns
 unfolding setRecord
-returns c = c .before .put .ensures
+returns c = c .before .before .put .ensures
 
 pub set-record-spec : {M : Type 1} → statement M
-set-record-spec = tie.close (tie.spec (λ c. search needs) (λ c κs. search needs) (λ c. search needs) returns)
+set-record-spec = tie.close (tie.spec (λ c. search needs) (λ c. search needs) (λ c κs. search needs) (λ c. search needs) returns)
