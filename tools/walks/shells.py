@@ -9,7 +9,7 @@ WORDS = ("rows",)
 RECORDS = Slice("segments", "R", "ys", "zs", lent=True)
 
 APPLY = Shell(
-    file="crates/reconstructor/proofs/ApplyShell.antt",
+    file="crates/reconstructor_apply_list/proofs/ApplyShell.antt",
     function="apply",
     argument="the segment list is lent to `last_segment`, the words are passed on for good to the work, and the list is lent to `rewrite_last`.",
     data="B D Y X",

@@ -32,7 +32,7 @@ pub fn apply(state: &mut [u64], rows: &mut [u64], segments: &mut [u64], message:
     let book = load_book(state);
     let count = book.segments;
     let last = last_record(segments, count);
-    let work = reconstructor::apply_by_value(book, rows, lent, last, load_message(message));
+    let work = reconstructor_apply::apply_by_value(book, rows, lent, last, load_message(message));
     rewrite_record(segments, count, work.segment);
     let answer = work.answer;
     store_book(state, work.book, sets_status(answer));

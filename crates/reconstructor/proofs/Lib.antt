@@ -1,4 +1,3 @@
 pub mod Laws
 pub mod Kept
 pub mod ByValue
-pub mod ApplyShell

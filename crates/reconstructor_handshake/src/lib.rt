@@ -173,7 +173,7 @@ impl Handshake {
             let counted = book.counting(Counter::HandshakeDropped);
             return self.unchanged(counted, last, StepAnswer::Dropped);
         }
-        let work = reconstructor::apply_trusted(book, rows, last, message);
+        let work = reconstructor_apply::apply_trusted(book, rows, last, message);
         let next = work.book;
         let answer = work.answer;
         let segment = work.segment;
