@@ -1,4 +1,4 @@
-// `apply` by value: `apply_by_value` checks the state and what it is lent, then `apply_trusted` works the message on the last segment's record.
+// `apply` by value: `apply_under` checks the state and what it is lent, then `apply_trusted` works the message on the last segment's record; `apply_by_value` has our ceiling.
 use book_index::Bounds;
 use message::L3Message;
 use reconstructor::Admitted;
