@@ -9,8 +9,8 @@
  * that holds:
  *
  *   768      An input of fixed size is lent too short: a state, a message, a handshake, an estimate.
- *   4        Words that no value has: a kind, side, reason, presence, own or ended word that the layouts below do not give. Words that no field names, and the
- *            value of an optional amount that is not there, may be anything.
+ *   4        Words that no value has: a kind, side, reason, presence, own, ended or size_decrease word that the layouts below do not give, an unsupported number
+ *            of 2^32 or more. Words that no field names, and the value of an optional amount that is not there, may be anything.
  *   1, 2, 3  Limits, memory, book. A state that no book has is number 3's: a size_decrease above 1, a status above 2, of an invalid book a reason that is not
  *            20 to 22 or 30 to 44, of reason 38 a detail above 1. Calls that are lent no rows (pinuglaw_handshake, pinuglaw_invalidation, pinuglaw_segment)
  *            say 3 for no other cause.

@@ -105,8 +105,8 @@ pub extern "C" fn pinuglaw_bootstrap(
     host_bootstrap::bootstrap(state, rows, segments, bytes)
 }
 
-// A handshake for the segment that the book is in, into four words; crate `host_handshake` has the layout in specs/HandshakeWords.antt. Before any snapshot it has ended. Answers 0
-// or 7.
+// A handshake for the segment that the book is in, into four words; crate `host_handshake` has the layout in specs/HandshakeWords.antt. Before any snapshot it has ended. Answers 0,
+// or 768, 3 or 7.
 #[no_mangle]
 pub extern "C" fn pinuglaw_handshake(state: &[u64], handshake: &mut [u64]) -> u64
     ensures { λ r. ⌜ answered r (now (handshake .exit)) ≡ handshakeCall (now (state .entry)) (now (handshake .entry)) ⌝ }

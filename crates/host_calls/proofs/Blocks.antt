@@ -37,32 +37,22 @@ use Rattle.reconstructor_bootstrap.specs.Snapshot.{pieceAnswer}
 use Rattle.reconstructor_bootstrap.specs.Bootstrap as boot
 use Rattle.host_records.specs.Records.{recordsIn, recordsOf, relaid}
 use Rattle.reconstructor_answers.specs.Numbers.{answerNumber}
-use Rattle.host_words.specs.Block.{stateWords, bookOf, messageOf, restored, setsStatus}
+use Rattle.host_words.specs.Block.{stateWords, bookOf, messageOf, restored, raised, setsStatus}
 use Rattle.host_boundary.specs.Boundary.{noMessage, noBook, unlessTurned}
 use Rattle.host_boundary.proofs.Passed.{Passed, passes, by-boundary}
 use Rattle.host_calls.specs.Calls.{Call, called, afterApply, afterBootstrap, applyCall, bootstrapCall}
+use Rattle.host_calls.specs.Refused.{acts, refusedState, refusalLeaves, snapshotLeaves}
 use Rattle.laws.proofs.Bools.{absurd-bool}
 use Rattle.reconstructor.proofs.Kept.{refusal-counts}
 use Rattle.reconstructor_bootstrap.proofs.Laws.{refusalOf, counts-alone}
 use Rattle.host_records.proofs.Records.{relaid-same}
-use Rattle.host_words.proofs.Blocks.{block-same, raised, raised-skipped, raised-product, raised-snapshots}
+use Rattle.host_words.proofs.Blocks.{block-same, raised-skipped, raised-product, raised-snapshots}
 use Rattle.host_words.proofs.RoundTrip.{block-back}
 
 -- ---- `pinuglaw_apply`
 
--- 01: "Save for the counts named above and what 16 .. record, a refusal changes no state and no buffer." A number is a refusal's unless it is 0, 256
--- or 16; 10 raises the count in word 25, 17 the one in word 24
-abbrev pub acts : ℕ → Bool
-acts k = eqb k 0 || (eqb k 256 || eqb k 16)
-
-abbrev pub counted : ℕ → List ℕ → List ℕ
-counted k st = cond (eqb k 10) (raised st 25) (cond (eqb k 17) (raised st 24) st)
-
-abbrev pub refusalLeaves : ℕ → List ℕ → List ℕ → List ℕ → Call
-refusalLeaves k st ws sg = called k (counted k st) ws sg
-
 refused-words : (st : List ℕ) (a : ApplyAnswer) → stateWords ≤ length st → acts (answerNumber a) ≡ false
-    → restored st (setsStatus a) (refusedBook (bookOf st) a) ≡ counted (answerNumber a) st
+    → restored st (setsStatus a) (refusedBook (bookOf st) a) ≡ refusedState (answerNumber a) st
 refused-words st (answers.Applied BookChanged) long h = absurd-bool h
 refused-words st (answers.Applied NoBookEffect) long h = absurd-bool h
 refused-words st (answers.Unusable LimitAboveCeiling) long h = block-same st long
@@ -151,10 +141,7 @@ module _ (st ws sg m : List ℕ) where
   apply-state p =
       rw (passes st (extentOf (memory ws)) (less st sg) (ltb (length m) 21) (noMessage m) p) (applied-state st ws sg (messageOf m) (p .whole) ceiling)
 
--- ---- `pinuglaw_bootstrap`: any number but 0 is a refusal's, and 10 to 14 raise the count in word 26
-
-abbrev pub snapshotLeaves : ℕ → List ℕ → List ℕ → List ℕ → Call
-snapshotLeaves k st ws sg = called k (cond (ltb k 10 || ltb 14 k) st (raised st 26)) ws sg
+-- ---- `pinuglaw_bootstrap`
 
 rejected-words : (st : List ℕ) (x : SnapshotAnswer) → stateWords ≤ length st → eqb (snapshotNumber x) 0 ≡ false
     → restored st (eqb (snapshotNumber x) 0) (boot.refusedBook x (bookOf st)) ≡ cond (ltb (snapshotNumber x) 10 || ltb 14 (snapshotNumber x)) st (raised st 26)

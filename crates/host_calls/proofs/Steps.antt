@@ -29,30 +29,20 @@ use Rattle.reconstructor_handshake.specs.declared.StepAnswer.the-variants.{Step
 use Rattle.reconstructor_handshake.specs.Step.{otherSegment, drops, with, after, decided, dropped, stepRefusal, unlessRefused, StepWorked, putBack, steppedTo, stepped}
 use Rattle.host_records.specs.Records.{recordsOf, relaid}
 use Rattle.reconstructor_answers.specs.Numbers.{answerNumber}
-use Rattle.host_words.specs.Block.{stateWords, bookOf, messageOf, restored}
+use Rattle.host_words.specs.Block.{stateWords, bookOf, messageOf, restored, raised}
 use Rattle.host_boundary.specs.Boundary.{noMessage, noHandshake, unlessTurned}
 use Rattle.host_boundary.proofs.Passed.{Passed, passes, by-boundary}
 use Rattle.host_handshake.specs.HandshakeWords.{handshakeOf, handshakeLeft, stepSets}
 use Rattle.host_calls.specs.Calls.{Call, StepCall, stepCalled, afterStep, stepCall}
 use Rattle.laws.proofs.Bools.{absurd-bool, or-no}
-use Rattle.host_words.proofs.Blocks.{block-same, raised, raised-dropped}
+use Rattle.host_words.proofs.Blocks.{block-same, raised-dropped}
 use Rattle.host_words.proofs.RoundTrip.{block-back}
 use Rattle.host_handshake.proofs.Words.{handshake-back, handshake-same}
 use Rattle.host_words.proofs.Lent.{lent-two}
-use Rattle.host_calls.proofs.Blocks.{acts, counted, relaid-last, applied-words, less, applied-state}
+use Rattle.host_calls.specs.Refused.{acts, refusedState, stepActs, refusedHandshake, stepRefusalLeaves}
+use Rattle.host_calls.proofs.Blocks.{relaid-last, applied-words, less, applied-state}
 
--- a number is a refusal's unless it is that of a message applied, dropped or invalidating
-abbrev pub stepActs : ℕ → Bool
-stepActs k = acts k || eqb k 512
-
--- 01: "16 or 17 ends the handshake"
-abbrev ended : ℕ → List ℕ → List ℕ
-ended k hs = cond (eqb k 17) (handshakeLeft hs (with (handshakeOf hs) true (handshakeOf hs .applied))) hs
-
-abbrev pub stepLeaves : ℕ → List ℕ → List ℕ → List ℕ → List ℕ → StepCall
-stepLeaves k st ws sg hs = stepCalled k (counted k st) ws sg (ended k hs)
-
-after-words : (hs : List ℕ) (a : ApplyAnswer) → 4 ≤ length hs → noHandshake hs ≡ false → acts (answerNumber a) ≡ false → handshakeLeft hs (after (handshakeOf hs) a) ≡ ended (answerNumber a) hs
+after-words : (hs : List ℕ) (a : ApplyAnswer) → 4 ≤ length hs → noHandshake hs ≡ false → acts (answerNumber a) ≡ false → handshakeLeft hs (after (handshakeOf hs) a) ≡ refusedHandshake (answerNumber a) hs
 after-words hs (answers.Applied BookChanged) long bit h = absurd-bool h
 after-words hs (answers.Applied NoBookEffect) long bit h = absurd-bool h
 after-words hs (answers.Unusable LimitAboveCeiling) long bit h = handshake-same hs long bit
@@ -102,7 +92,7 @@ module _ (top : ℕ) (st ws sg hs : List ℕ) (m : L3Message) (long : stateWords
   kept k = rw (block-same st long, relaid-last sg (bookOf st .segments), handshake-same hs full bit)
 
   left-refused : (o : Option StateError) (x y d : Bool) → stepActs (left (gate o x y) d .number) ≡ false
-      → left (gate o x y) d ≡ stepLeaves (left (gate o x y) d .number) st ws sg hs
+      → left (gate o x y) d ≡ stepRefusalLeaves (left (gate o x y) d .number) st ws sg hs
   unfolding unlessRefused first check applied
   left-refused (some LimitAboveCeiling) x y d h = kept 1
   left-refused (some LentTooShort) x y d h = kept 2
@@ -114,7 +104,7 @@ module _ (top : ℕ) (st ws sg hs : List ℕ) (m : L3Message) (long : stateWords
       let a = applied top (bookOf st) (memory ws) (recordsOf sg) m .answer in
       let refused = or-no (acts (answerNumber a)) (eqb (answerNumber a) 512) h .0 in
       ap (λ (c : Call). stepCalled (c .number) (c .state) (c .rows) (c .segments) (handshakeLeft hs (after (handshakeOf hs) a))) (applied-words st ws sg m long top refused) ∙
-      ap (stepCalled (answerNumber a) (counted (answerNumber a) st) ws sg) (after-words hs a full bit refused)
+      ap (stepCalled (answerNumber a) (refusedState (answerNumber a) st) ws sg) (after-words hs a full bit refused)
 
   left-dropped : (o : Option StateError) (x y d : Bool) → eqb (left (gate o x y) d .number) 512 ≡ true → left (gate o x y) d ≡ stepCalled 512 (raised st 23) ws sg hs
   unfolding unlessRefused first check
@@ -166,16 +156,16 @@ module _ (st ws sg hs m : List ℕ) where
   leftBy k =
       unlessTurned k (λ (n : ℕ). stepCalled n st ws sg hs) (afterStep st sg hs (stepped ceiling (handshakeOf hs) (bookOf st) (memory ws) (recordsOf sg) (messageOf m)))
 
-  by-refused : Passed st short wrong → stepActs (leftBy 0 .number) ≡ false → leftBy 0 ≡ stepLeaves (leftBy 0 .number) st ws sg hs
+  by-refused : Passed st short wrong → stepActs (leftBy 0 .number) ≡ false → leftBy 0 ≡ stepRefusalLeaves (leftBy 0 .number) st ws sg hs
   unfolding stepped steppedTo stepRefusal
   by-refused p h =
       left-refused ceiling st ws sg hs (messageOf m) (p .whole) (lent-two hs 4 m 21 (p .full) .0) (or-no (noHandshake hs) (noMessage m) (p .right) .0) (stateOf st ws sg) other far old h
 
-  pub step-refused : stepActs (stepCall st ws sg hs m .number) ≡ false → stepCall st ws sg hs m ≡ stepLeaves (stepCall st ws sg hs m .number) st ws sg hs
+  pub step-refused : stepActs (stepCall st ws sg hs m .number) ≡ false → stepCall st ws sg hs m ≡ stepRefusalLeaves (stepCall st ws sg hs m .number) st ws sg hs
   unfolding stepCall
   step-refused =
       by-boundary st (extentOf (memory ws)) (less st sg) short wrong
-      (λ (k : ℕ). stepActs (leftBy k .number) ≡ false → leftBy k ≡ stepLeaves (leftBy k .number) st ws sg hs)
+      (λ (k : ℕ). stepActs (leftBy k .number) ≡ false → leftBy k ≡ stepRefusalLeaves (leftBy k .number) st ws sg hs)
       (λ h. refl) (λ h. refl) (λ h. refl) (λ h. refl) (λ h. refl) by-refused
 
   by-dropped : Passed st short wrong → eqb (leftBy 0 .number) 512 ≡ true → leftBy 0 ≡ stepCalled 512 (raised st 23) ws sg hs

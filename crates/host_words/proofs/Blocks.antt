@@ -11,15 +11,11 @@ use Rattle.reconstructor_state.specs.declared.Status.{Status}
 use Rattle.reconstructor_state.specs.declared.BookReconstructor.{BookReconstructor}
 use Rattle.reconstructor_counts.specs.Counts.{saturated, countedAt}
 use Rattle.reconstructor_state.specs.State.{withCounts}
-use Rattle.host_words.specs.Block.{bookOf, statusAfter, restList, restored}
+use Rattle.host_words.specs.Block.{bookOf, statusAfter, restList, restored, raised}
 use Rattle.laws.proofs.Splice.{splice-rest}
 
 pub status-left : (st : List ℕ) → st ≡ take 6 st ++ take 7 (drop 6 st) ++ drop 13 st
 status-left st = sym (ap (λ l. l ++ drop 13 st) (sym (take-add 6 7 st)) ∙ take-append-drop 13 st)
-
--- a block with the count in word i raised
-abbrev pub raised : List ℕ → ℕ → List ℕ
-raised st i = set st i (saturated (getD st i 0))
 
 module _ (st : List ℕ) (long : 27 ≤ length st) where
   pub length-after : (sets : Bool) (s : Status) → length (statusAfter st sets s) ≡ 7

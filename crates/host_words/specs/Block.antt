@@ -4,7 +4,7 @@ use Prim.Native.Nat.{ℕ, _*_, _%_}
 use mathlib.Core.List.{List, [], _∷_, _++_}
 use mathlib.Core.Bool.{Bool, true, false, cond}
 use lib.Dec.{eqb}
-use lib.ListN.{getD, take, drop}
+use lib.ListN.{getD, set, take, drop}
 use mir.Syntax.{w64}
 use mir.Val.{toZ}
 use Rattle.message.specs.declared.OptionalAmount.{OptionalAmount}
@@ -26,6 +26,7 @@ use Rattle.reconstructor_answers.specs.declared.InvalidationKind.the-variants a
 use Rattle.reconstructor_state.specs.declared.Status.{Status}
 use Rattle.reconstructor_state.specs.declared.Status.the-variants.{Empty, Valid, Invalidated}
 use Rattle.reconstructor_counts.specs.declared.MessageCounts.{MessageCounts}
+use Rattle.reconstructor_counts.specs.Counts.{saturated}
 use Rattle.reconstructor_state.specs.declared.BookReconstructor.{BookReconstructor}
 use Rattle.reconstructor_answers.specs.declared.ApplyAnswer.{ApplyAnswer}
 use Rattle.reconstructor_answers.specs.declared.ApplyAnswer.the-variants as answers
@@ -225,6 +226,10 @@ messageOf ws =
       «time_us» = getD ws 4 0;
       event = eventOf ws;
     }
+
+-- a block with the count in word i raised
+abbrev pub raised : List ℕ → ℕ → List ℕ
+raised st i = set st i (saturated (getD st i 0))
 
 -- ---- An answer
 

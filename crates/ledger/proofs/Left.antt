@@ -3,7 +3,7 @@
 use Prim.Native.Nat.{ℕ, _*_, _≤_}
 use native.Mathlib.Omega.{arith}
 use mathlib.Core.Bool.{Bool, true, false, not}
-use mathlib.Core.Path.{_≡_, refl, _∙_}
+use mathlib.Core.Path.{_≡_, refl, ap, _∙_}
 use mathlib.Core.List.{List, map}
 use mathlib.Core.Option.{Option, none, some}
 use lib.ListN.{length, length-map, length-set}
@@ -18,7 +18,7 @@ use Rattle.reconstructor_segments.specs.declared.Segment.{Segment}
 use Rattle.reconstructor_segments.specs.Segments.{lastSegment, relast, started}
 use Rattle.reconstructor_segments.proofs.Last.{length-relast}
 use Rattle.reconstructor_state.specs.declared.BookReconstructor.{BookReconstructor}
-use Rattle.reconstructor_state.specs.State.{lastOf, segmentOf}
+use Rattle.reconstructor_state.specs.State.{lastOf, segmentOf, withCounts}
 use Rattle.reconstructor_checks.specs.StateChecks.{Usable, broken}
 use Rattle.reconstructor_checks.proofs.StateChecks.{sound, rows-lent, segments-lent}
 use Rattle.reconstructor_plan.specs.Rules.{effect, eventDeed}
@@ -27,8 +27,8 @@ use Rattle.reconstructor.specs.Applied.{refusedReply, invalidatedReply, accepte
 use Rattle.reconstructor.proofs.Kept.{usable-kept}
 use Rattle.reconstructor_bootstrap.specs.declared.SnapshotAnswer.{SnapshotAnswer}
 use Rattle.reconstructor_bootstrap.specs.Snapshot.{snapshotLine}
-use Rattle.reconstructor_bootstrap.specs.Bootstrap.{Parts as SnapshotParts, closed, bootstrapped}
-use Rattle.reconstructor_bootstrap.proofs.Laws.{refusalOf, refused-keeps, is-accepted}
+use Rattle.reconstructor_bootstrap.specs.Bootstrap.{Parts as SnapshotParts, refusedBook, closed, bootstrapped}
+use Rattle.reconstructor_bootstrap.proofs.Laws.{refusalOf, refused-is, counts-alone, is-accepted}
 use Rattle.reconstructor_handshake.specs.declared.Handshake.{Handshake}
 use Rattle.reconstructor_handshake.specs.Step.{StepParts, otherSegment, drops, stepped}
 use Rattle.reconstructor_handshake.proofs.Step.{other-step, out-of-range-step, dropped-step, decided-step}
@@ -128,7 +128,7 @@ module _ (top : ℕ) (b : BookReconstructor) (mem : Memory) (sg : List Segment) 
     where
       go : (o : Option SnapshotAnswer) → refusalOf top b mem sg bytes ≡ o → BootLeft (bootstrapped top b mem sg bytes)
       go (some x) q =
-          let k = refused-keeps top b mem sg bytes x q in
-          let l = left-same top b (bootstrapped top b mem sg bytes .book) mem sg u (k .count) (k .listed) in
-          rw (k .memory, k .segments) l
+          let e : refusedBook x b ≡ withCounts b (refusedBook x b .counts) = counts-alone x b in
+          rw (refused-is top b mem sg bytes x q)
+          (left-same top b (refusedBook x b) mem sg u (ap (λ (k : BookReconstructor). k .rows) e) (ap (λ (k : BookReconstructor). k .segments) e))
       go none q = accepted-left q

@@ -175,15 +175,6 @@ module _ (top : ℕ) (b : BookReconstructor) (mem : Memory) (sg : List Segment) 
 
 -- ---- refusal
 
--- 01, bootstrap: "leave all else; a valid book stays valid"; nothing that is lent changes
-pub record Untouched (b : BookReconstructor) (mem : Memory) (sg : List Segment) (p : Parts) : Type 0 where
-  pub memory : p .memory ≡ mem
-  pub segments : p .segments ≡ sg
-  pub status : p .book .status ≡ b .status
-  pub rules : p .book .rules ≡ b .rules
-  pub count : p .book .rows ≡ b .rows
-  pub listed : p .book .segments ≡ b .segments
-
 -- a refusal changes the counts at most
 pub counts-alone : (x : SnapshotAnswer) (b : BookReconstructor) → refusedBook x b ≡ withCounts b (refusedBook x b .counts)
 counts-alone Bootstrapped b = refl
@@ -193,30 +184,14 @@ counts-alone AmountOutOfRange b = refl
 counts-alone ListFull b = refl
 counts-alone (Rejected e) b = refl
 
--- what it leaves
-abbrev pub refusedParts : SnapshotAnswer → BookReconstructor → Memory → List Segment → Parts
-refusedParts x b mem sg = record { answer = x; book = refusedBook x b; memory = mem; segments = sg }
-
 module _ (top : ℕ) (b : BookReconstructor) (mem : Memory) (sg : List Segment) (bytes : List ℕ) (x : SnapshotAnswer) (h : refusalOf top b mem sg bytes ≡ some x) where
   -- the last record rewritten with itself, and one past the end, leave the list
   same : set (relast sg (b .segments) (lastSegment sg (b .segments))) (length sg) noSegment ≡ sg
   same = ap (λ l. set l (length sg) noSegment) (relast-same sg (b .segments)) ∙ set-out sg (length sg) noSegment (omega arith)
 
-  pub refused-is : bootstrapped top b mem sg bytes ≡ refusedParts x b mem sg
-  refused-is = settles top b mem sg bytes (some x) h ∙ ap (λ l. refusedParts x b mem l) same
-
-  pub refused-keeps : Untouched b mem sg (bootstrapped top b mem sg bytes)
-  refused-keeps =
-      let e : refusedBook x b ≡ withCounts b (refusedBook x b .counts) = counts-alone x b in
-      rw refused-is
-      (record {
-        memory = refl;
-        segments = refl;
-        status = ap (λ (k : BookReconstructor). k .status) e;
-        rules = ap (λ (k : BookReconstructor). k .rules) e;
-        count = ap (λ (k : BookReconstructor). k .rows) e;
-        listed = ap (λ (k : BookReconstructor). k .segments) e;
-      })
+  -- 01, bootstrap: "leave all else; a valid book stays valid"
+  pub refused-is : bootstrapped top b mem sg bytes ≡ record { answer = x; book = refusedBook x b; memory = mem; segments = sg }
+  refused-is = settles top b mem sg bytes (some x) h ∙ ap (λ (l : List Segment). record { answer = x; book = refusedBook x b; memory = mem; segments = l }) same
 
   -- a usable state stays usable
   pub refused-usable : Usable top b mem (length sg)
