@@ -93,7 +93,7 @@ fn find_near(rows: &[u64], k: usize, id: OrderId) -> Found
     let mut j = k;
     while last < j {
         j -= 1;
-        if book::has_id(book::get_row(rows, j), id) {
+        if book_search::has_id(book::get_row(rows, j), id) {
             return Found::At(j);
         }
     }
@@ -107,14 +107,14 @@ pub fn find(rows: &[u64], n: usize, places: &[u16], bounds: Bounds, id: OrderId)
 {
     let m = places.len();
     if m == 0 {
-        return book::find(rows, n, id);
+        return book_search::find(rows, n, id);
     }
     let place = book_keys::row_of(places[bucket_of(id, m)]);
     if place == 0 {
         return Found::Nothing;
     }
     let Found::At(i) = find_near(rows, smaller(place, n), id) else {
-        return book::find(rows, n, id);
+        return book_search::find(rows, n, id);
     };
     Found::At(i)
 }
@@ -134,7 +134,7 @@ pub fn would_cross(
     if bounds.clear_of(side, price) {
         return false;
     }
-    book::would_cross(rows, n, side, price)
+    book_prices::would_cross(rows, n, side, price)
 }
 
 // ---- upkeep

@@ -37,7 +37,7 @@ pub fn order_count(rows: &[u64], n: usize, side: L3Side, price: u64) -> usize
     let mut i = n;
     while 0 < i {
         i -= 1;
-        if book::on_level(book::get_row(rows, i), side, price) {
+        if book_search::on_level(book::get_row(rows, i), side, price) {
             count += 1;
         }
     }
@@ -105,7 +105,7 @@ fn write_row(
     ensures { λ r. ⌜ r ≡ cond (sameLevel (sideOf (o .kind)) (o .price) side price) (at + entryWidth form) at ⌝ }
     ensures { λ _. ⌜ now (out .exit) ≡ cond (sameLevel (sideOf (o .kind)) (o .price) side price) (take at (now (out .entry)) ++ entryWords form o ++ drop (at + entryWidth form) (now (out .entry))) (now (out .entry)) ⌝ }
 {
-    if book::on_level(o, side, price) {
+    if book_search::on_level(o, side, price) {
         put_entry(out, at, form, o);
         return at + width(form);
     }

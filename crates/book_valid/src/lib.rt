@@ -129,7 +129,10 @@ pub fn audit(rows: &[u64], n: usize) -> AuditAnswer
     if book_keys::id_twice(rows, n) {
         return AuditAnswer::IdTwice;
     }
-    if book::meet(book::best_bid(rows, n), book::best_ask(rows, n)) {
+    if book_prices::meet(
+        book_prices::best_bid(rows, n),
+        book_prices::best_ask(rows, n),
+    ) {
         return AuditAnswer::Crossed;
     }
     AuditAnswer::Ok
