@@ -1,7 +1,7 @@
 // An index beside the rows, for a run of messages: where to look first for an id, and prices that an open does not cross. Orders that have left stay in it,
 // so that a removal costs nothing; a row has moved down since it was marked, never up.
 use book::Found;
-use book_keys::Key;
+use book_row_keys::Key;
 use message::L3Event;
 use message::L3Side;
 use message::OrderId;
@@ -11,7 +11,7 @@ ghost use Prim.Native.Nat.{_≤_, _<_};
 ghost use lib.ListN.{length};
 ghost use Rattle.book.specs.Line.{wouldCross};
 ghost use Rattle.book.specs.Rows.{Lent, mostRows, rowsOf, lineOf, findRow};
-ghost use Rattle.book_keys.specs.Keys.{bucketOf};
+ghost use Rattle.book_buckets.specs.Buckets.{bucketOf};
 ghost use Rattle.book_index.specs.Index.{keyFor, bounded, rowMarked, rowBounded, all, Indexed, Foreseen, markedAt, noted, noBounds, widened, clearOf, Near};
 
 // No buy is above `high_bid`, no sell below `low_ask`, where they are known.
@@ -69,7 +69,7 @@ fn bucket_of(id: OrderId, m: usize) -> usize
     requires { ⌜ (0 < m) × (m ≤ 65536) ⌝ }
     ensures { λ r. ⌜ (r ≡ bucketOf (keyFor id) m) × (r < m) ⌝ }
 {
-    book_keys::bucket(
+    book_buckets::bucket(
         Key {
             high: id.high,
             low: id.low,
@@ -109,7 +109,7 @@ pub fn find(rows: &[u64], n: usize, places: &[u16], bounds: Bounds, id: OrderId)
     if m == 0 {
         return book_search::find(rows, n, id);
     }
-    let place = book_keys::row_of(places[bucket_of(id, m)]);
+    let place = book_buckets::row_of(places[bucket_of(id, m)]);
     if place == 0 {
         return Found::Nothing;
     }

@@ -4,10 +4,11 @@ use Prim.Native.Nat.{_≤_, _-_}
 use mathlib.Core.Path.{_≡_, _∙_, ap, sym}
 use native.Mathlib.Omega.{arith}
 use borrow.Author.Needs.{needs}
-use Rattle.book_keys.specs.Keys.{keyOf, sameKey, hasKey, restOf, bucketOf, Headed}
-use Rattle.book_keys.proofs.Chains.{rest-none, turn}
-use Rattle.book_keys.proofs.chain_has.Statement.{statement}
-use Rattle.book_keys.proofs.chain_has.Tie as tie
+use Rattle.book_row_keys.specs.Keys.{keyOf, sameKey, hasKey}
+use Rattle.book_buckets.specs.Buckets.{restOf, bucketOf, Headed}
+use Rattle.book_buckets.proofs.Chains.{rest-none, turn}
+use Rattle.book_buckets.proofs.chain_has.Statement.{statement}
+use Rattle.book_buckets.proofs.chain_has.Tie as tie
 
 abbrev Inv-loop : tie.InvT-loop
 Inv-loop rows n kind m next first key j₀ j =

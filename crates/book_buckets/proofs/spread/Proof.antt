@@ -1,8 +1,8 @@
 use native.Mathlib.Omega.{arith}
 use borrow.Author.Needs.{needs}
-use Rattle.book_keys.specs.Keys.{spreadOf}
-use Rattle.book_keys.proofs.spread.Statement.{statement}
-use Rattle.book_keys.proofs.spread.Tie as tie
+use Rattle.book_buckets.specs.Buckets.{spreadOf}
+use Rattle.book_buckets.proofs.spread.Statement.{statement}
+use Rattle.book_buckets.proofs.spread.Tie as tie
 
 returns : tie.Need-returns
 unfolding spreadOf

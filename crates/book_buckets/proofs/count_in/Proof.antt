@@ -7,10 +7,11 @@ use native.Mathlib.Omega.{arith}
 use lib.ListN.{length, getD, length-set}
 use borrow.Author.Needs.{needs}
 use borrow.Author.Tests.{not-true, not-false}
-use Rattle.book_keys.specs.Keys.{keyOf, hasKey, countKeys, restOf, Heads, Chained}
-use Rattle.book_keys.proofs.Chains.{rest-none, rest-all, heads-none, linked}
-use Rattle.book_keys.proofs.count_in.Statement.{statement}
-use Rattle.book_keys.proofs.count_in.Tie as tie
+use Rattle.book_row_keys.specs.Keys.{keyOf, hasKey, countKeys}
+use Rattle.book_buckets.specs.Buckets.{restOf, Chained}
+use Rattle.book_buckets.proofs.Chains.{Heads, rest-none, rest-all, heads-none, linked}
+use Rattle.book_buckets.proofs.count_in.Statement.{statement}
+use Rattle.book_buckets.proofs.count_in.Tie as tie
 
 abbrev Inv-loop : tie.InvT-loop
 Inv-loop rows n kind heads₀ next₀ m count₀ k₀ heads next count k =

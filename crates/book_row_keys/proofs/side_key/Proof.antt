@@ -1,6 +1,6 @@
 use borrow.Author.Needs.{needs}
-use Rattle.book_keys.proofs.side_key.Statement.{statement}
-use Rattle.book_keys.proofs.side_key.Tie as tie
+use Rattle.book_row_keys.proofs.side_key.Statement.{statement}
+use Rattle.book_row_keys.proofs.side_key.Tie as tie
 
 returns : tie.Need-returns
 returns c = rw (← c .before .before .side-of .ensures, ← c .before .same-side .ensures, c .if1 .taken)

@@ -1,10 +1,10 @@
 use mathlib.Core.Path.{refl}
 use native.Mathlib.Omega.{arith}
 use borrow.Author.Needs.{needs}
-use Rattle.book_keys.specs.Keys.{bucketOf}
-use Rattle.book_keys.proofs.Chains.{product-lt, bucket-lt}
-use Rattle.book_keys.proofs.bucket.Statement.{statement}
-use Rattle.book_keys.proofs.bucket.Tie as tie
+use Rattle.book_buckets.specs.Buckets.{bucketOf}
+use Rattle.book_buckets.proofs.Chains.{product-lt, bucket-lt}
+use Rattle.book_buckets.proofs.bucket.Statement.{statement}
+use Rattle.book_buckets.proofs.bucket.Tie as tie
 
 mul-result : tie.Need-mul-result
 mul-result c = record { fits = omega (arith, product-lt (c .spread .result) (c .before .args .m) (c .spread .ensures .1) (c .before .pre .0)) }

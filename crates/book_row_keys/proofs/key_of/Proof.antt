@@ -1,6 +1,6 @@
 use borrow.Author.Needs.{needs}
-use Rattle.book_keys.proofs.key_of.Statement.{statement}
-use Rattle.book_keys.proofs.key_of.Tie as tie
+use Rattle.book_row_keys.proofs.key_of.Statement.{statement}
+use Rattle.book_row_keys.proofs.key_of.Tie as tie
 
 returns : tie.Need-returns
 returns c = rw (c .enum-told .given .1)

@@ -8,16 +8,17 @@ use native.Mathlib.Omega.{arith}
 use native.Mathlib.Numerals.{add-one}
 use native.Mathlib.Nat.{mul-lt-mul-of-pos-right}
 use lib.Dec.{eqb}
-use lib.ListN.{length, getD, set}
+use lib.ListN.{length, getD, set, replicate, length-replicate, getD-replicate}
 use lib.Seq.{getD-set-same, getD-set-other}
 use borrow.Author.Tests.{eqb-true, eqb-false, eq-eqb}
 use Rattle.laws.proofs.Bools.{and-yes}
 use Rattle.book.specs.declared.Resting.{Resting}
 use Rattle.book.specs.Rows.{rowAt, rowsFrom, rowsOf}
 use Rattle.book.proofs.Rows.{length-rows}
-use Rattle.book_keys.specs.declared.Key.{Key}
-use Rattle.book_keys.specs.declared.KeyKind.{KeyKind}
-use Rattle.book_keys.specs.Keys.{keyOf, sameKey, hasKey, countKeys, restOf, spreadOf, bucketOf, skipTo, linkOf, Headed, Chained, Heads, Empty}
+use Rattle.book_row_keys.specs.declared.Key.{Key}
+use Rattle.book_row_keys.specs.declared.KeyKind.{KeyKind}
+use Rattle.book_row_keys.specs.Keys.{keyOf, sameKey, hasKey, countKeys}
+use Rattle.book_buckets.specs.Buckets.{restOf, spreadOf, bucketOf, skipTo, linkOf, Headed, Chained, Empty}
 
 key-path : {a b : Key} → a .high ≡ b .high → a .low ≡ b .low → a ≡ b
 key-path p q = λ k. record { high = p k; low = q k }
@@ -154,6 +155,13 @@ rest-next ws n k h = rest-step ws n (k + 1) k (add-one k) (omega arith)
 
 pub rest-all : (ws : List ℕ) (n k : ℕ) → k ≡ n → restOf ws n k ≡ rowsOf ws n
 rest-all ws n k e = let z : n - n ≡ 0 = omega arith in rw (e, z)
+
+-- each bucket has its link to the last k rows
+abbrev pub Heads : List ℕ → ℕ → KeyKind → ℕ → List ℕ → ℕ → Type 0
+Heads ws n kind m heads k = (b : ℕ) → b < m → getD heads b 0 ≡ linkOf kind m b (restOf ws n k)
+
+pub empty-zeros : (k : ℕ) → Empty (replicate {A = ℕ} k 0)
+empty-zeros k b h = getD-replicate {A = ℕ} k b 0 0 (omega (arith, length-replicate {A = ℕ} k 0))
 
 -- no row is linked yet
 pub heads-none : (ws : List ℕ) (n : ℕ) (kind : KeyKind) (m : ℕ) (heads : List ℕ) → Empty heads → m ≤ length heads → Heads ws n kind m heads 0
