@@ -8,9 +8,9 @@ use borrow.Author.Needs.{needs}
 use borrow.Author.Tests.{eq-eqb, ne-eqb}
 use Rattle.book.specs.Rows.{rowsFrom, rowsOf}
 use Rattle.book.proofs.Rows.{rows-next, rows-done}
 use Rattle.book_valid.specs.Audit.{someEmpty}
-use Rattle.book_valid.proofs.some_empty.Statement.{statement}
-use Rattle.book_valid.proofs.some_empty.Tie as tie
+use Rattle.book_audit.proofs.some_empty.Statement.{statement}
+use Rattle.book_audit.proofs.some_empty.Tie as tie
 
 abbrev Inv-loop : tie.InvT-loop
 Inv-loop rows n i₀ i = (i ≤ n) × (someEmpty (rowsOf rows n) ≡ someEmpty (rowsFrom rows i (n - i)))

@@ -1,8 +1,8 @@
 -- The tests of the code are those of `auditOf`, in its order, and each branch settles one; the first two passed lend the rows that the others look at.
 use borrow.Author.Tests.{lt-ltb, le-ltb}
 use borrow.Author.Needs.{needs}
-use Rattle.book_valid.proofs.audit.Statement.{statement}
-use Rattle.book_valid.proofs.audit.Tie as tie
+use Rattle.book_audit.proofs.audit.Statement.{statement}
+use Rattle.book_audit.proofs.audit.Tie as tie
 
 returns : tie.Need-returns
 returns c = rw (lt-ltb _ _ (c .if1 .taken))
