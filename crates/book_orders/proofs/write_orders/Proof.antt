@@ -4,10 +4,10 @@ use Prim.Native.Nat.{_-_}
 use mathlib.Core.Path.{_≡_, refl}
 use native.Mathlib.Omega.{arith}
 use lib.ListN.{length}
 use Rattle.book_queue.proofs.Orders.{Writes, writes-start, writes-room, writes-next, writes-all}
 use borrow.Author.Needs.{needs}
-use Rattle.book_queue.proofs.write_orders.Statement.{statement}
-use Rattle.book_queue.proofs.write_orders.Tie as tie
+use Rattle.book_orders.proofs.write_orders.Statement.{statement}
+use Rattle.book_orders.proofs.write_orders.Tie as tie
 
 abbrev Inv-loop : tie.InvT-loop
 Inv-loop rows n side price form out₀ at₀ i₀ out at i = Writes form side price rows n out₀ out at i × (length out ≡ length out₀)

@@ -7,11 +7,11 @@ use native.Mathlib.Omega.{arith}
 use lib.ListN.{length}
 use Rattle.book.specs.Rows.{rowsFrom}
 use Rattle.book.proofs.Rows.{rows-prev, rows-done, length-rows}
 use Rattle.book_queue.specs.Queue.{rowsAt}
 use Rattle.book_queue.proofs.Orders.{at-most}
 use borrow.Author.Needs.{needs}
-use Rattle.book_queue.proofs.order_count.Statement.{statement}
-use Rattle.book_queue.proofs.order_count.Tie as tie
+use Rattle.book_orders.proofs.order_count.Statement.{statement}
+use Rattle.book_orders.proofs.order_count.Tie as tie
 
 abbrev Inv-loop : tie.InvT-loop
 Inv-loop rows n side price count₀ i₀ count i = (i ≤ n) × (count ≡ length (rowsAt side price (rowsFrom rows i (n - i))))

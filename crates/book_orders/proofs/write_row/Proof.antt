@@ -1,8 +1,8 @@
 use native.Mathlib.Omega.{arith}
 use mathlib.Core.Path.{refl}
 use borrow.Author.Needs.{needs}
-use Rattle.book_queue.proofs.write_row.Statement.{statement}
-use Rattle.book_queue.proofs.write_row.Tie as tie
+use Rattle.book_orders.proofs.write_row.Statement.{statement}
+use Rattle.book_orders.proofs.write_row.Tie as tie
 
 put-entry-requires : tie.Need-put-entry-requires
 put-entry-requires c κs =
