@@ -1,3 +1,4 @@
+pub mod Fits
 pub mod Kept
 pub mod Memory
 pub mod Moves

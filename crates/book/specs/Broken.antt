@@ -1,15 +1,14 @@
--- Number 3, the rows' part, and the record that callers carry once it is passed. 01, number 3: "kind above 3; price or remaining 0 or above
--- 10^15; a flag rule broken; an id twice; levels above the limit; best buy ≥ best sell".
-use Prim.Native.Nat.{ℕ, _*_, _≤_, _<_}
-use mathlib.Core.Path.{_≡_}
+-- Number 3, the rows' part. 01, number 3: "kind above 3; price or remaining 0 or above 10^15; a flag rule broken; an id twice; levels above the
+-- limit; best buy ≥ best sell".
+use Prim.Native.Nat.{ℕ, _*_}
 use mathlib.Core.Bool.{Bool, false, not, _||_, _&&_}
 use mathlib.Core.List.{List, [], _∷_}
 use lib.Dec.{eqb, ltb}
 use lib.ListN.{length}
 use Rattle.message.specs.Values.{amountLimit}
 use Rattle.book.specs.declared.Resting.{Resting}
-use Rattle.book.specs.Line.{Entry, rests, hasLevel, levels, crossed, wouldCross}
-use Rattle.book.specs.Rows.{rowWords, mostRows, rowsOf, idOf, sideOf, lineOf}
+use Rattle.book.specs.Line.{Entry, rests, levels, crossed}
+use Rattle.book.specs.Rows.{rowWords, mostRows, rowsOf, lineOf}
 
 -- "0 or above 10^15"
 abbrev pub outOfRange : ℕ → Bool
@@ -41,34 +40,3 @@ rowsBroken maxLevels os =
 -- "rows above max_orders", before
 abbrev pub wordsBroken : ℕ → List ℕ → ℕ → Bool
 wordsBroken maxLevels ws n = ltb mostRows n || (ltb (length ws) (rowWords * n) || rowsBroken maxLevels (rowsOf ws n))
-
--- ---- what callers carry
-
--- rows that number 3 does not name, within the limits
-pub record WellFormed (maxOrders maxLevels : ℕ) (os : List Resting) : Type 0 where
-  pub few : length os ≤ maxOrders
-  pub sound : someRowBroken os ≡ false
-  pub single : idTwice (lineOf os) ≡ false
-  pub flat : levels (lineOf os) ≤ maxLevels
-  pub apart : crossed (lineOf os) ≡ false
-
--- an open that planning accepts (34, 42, 41, 43): the id is new, the row sound, no crossing, room for an order and, "only if the price has no
--- level", for a level
-pub record OpenFits (maxOrders maxLevels : ℕ) (os : List Resting) (o : Resting) : Type 0 where
-  pub new : rests (idOf o) (lineOf os) ≡ false
-  pub sound : rowBroken o ≡ false
-  pub apart : wouldCross (sideOf (o .kind)) (o .price) (lineOf os) ≡ false
-  pub few : length os < maxOrders
-  pub flat : hasLevel (sideOf (o .kind)) (o .price) (lineOf os) ≡ false → levels (lineOf os) < maxLevels
-
-abbrev pub someOutOfRange : List Entry → Bool
-someOutOfRange [] = false
-someOutOfRange (e ∷ l) = (outOfRange (e .price) || outOfRange (e .remaining)) || someOutOfRange l
-
--- the line of an accepted snapshot (5, 11 to 14)
-pub record SnapshotFits (maxOrders maxLevels : ℕ) (l : List Entry) : Type 0 where
-  pub few : length l ≤ maxOrders
-  pub sound : someOutOfRange l ≡ false
-  pub single : idTwice l ≡ false
-  pub flat : levels l ≤ maxLevels
-  pub apart : crossed l ≡ false

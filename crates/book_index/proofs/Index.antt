@@ -27,8 +27,8 @@ use Rattle.book.specs.Rows.{emptyRow, rowAt, rowsFrom, rowsOf, idOf, entryOf, l
 use Rattle.book.specs.Broken.{idTwice}
 use Rattle.book.proofs.Rows.{rows-around, rows-done, length-rows, getD-rows}
 use Rattle.book.proofs.Moves.{rests-front}
-use Rattle.book_keys.specs.Keys.{bucketOf}
-use Rattle.book_keys.proofs.Chains.{bucket-lt}
+use Rattle.book_buckets.specs.Buckets.{bucketOf}
+use Rattle.book_buckets.proofs.Chains.{bucket-lt}
 use Rattle.book_index.specs.declared.Bounds.{Bounds}
 use Rattle.book_index.specs.Index.{keyFor, marked, bounded, rowMarked, rowBounded, all, Indexed, markedAt, noBounds, widened, clearOf}
 

@@ -18,8 +18,8 @@ use Rattle.book.specs.declared.Found.the-variants.{At, Nothing}
 use Rattle.book.specs.declared.Resting.{Resting}
 use Rattle.book.specs.Rows.{rowAt, idOf, sideOf, lineOf}
 use Rattle.book.specs.Broken.{idTwice}
-use Rattle.book_keys.specs.declared.Key.{Key}
-use Rattle.book_keys.specs.Keys.{bucketOf}
+use Rattle.book_row_keys.specs.declared.Key.{Key}
+use Rattle.book_buckets.specs.Buckets.{bucketOf}
 use Rattle.book_index.specs.declared.Bounds.{Bounds}
 
 -- ---- what an index says of an order

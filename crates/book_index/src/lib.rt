@@ -1,7 +1,7 @@
 // An index beside the rows, for a run of messages: where to look first for an id, and prices that an open does not cross. Orders that have left stay in it,
 // so that a removal costs nothing; a row has moved down since it was marked, never up.
 use book::Found;
-use book_keys::Key;
+use book_row_keys::Key;
 use message::L3Event;
 use message::L3Side;
 use message::OrderId;
@@ -11,7 +11,7 @@ ghost use Prim.Native.Nat.{_≤_, _<_};
 ghost use lib.ListN.{length};
 ghost use Rattle.book.specs.Line.{wouldCross};
 ghost use Rattle.book.specs.Rows.{Lent, mostRows, rowsOf, lineOf, findRow};
-ghost use Rattle.book_keys.specs.Keys.{bucketOf};
+ghost use Rattle.book_buckets.specs.Buckets.{bucketOf};
 ghost use Rattle.book_index.specs.Index.{keyFor, bounded, rowMarked, rowBounded, all, Indexed, Foreseen, markedAt, noted, noBounds, widened, clearOf, Near};
 
 // No buy is above `high_bid`, no sell below `low_ask`, where they are known.
@@ -69,7 +69,7 @@ fn bucket_of(id: OrderId, m: usize) -> usize
     requires { ⌜ (0 < m) × (m ≤ 65536) ⌝ }
     ensures { λ r. ⌜ (r ≡ bucketOf (keyFor id) m) × (r < m) ⌝ }
 {
-    book_keys::bucket(
+    book_buckets::bucket(
         Key {
             high: id.high,
             low: id.low,
@@ -93,7 +93,7 @@ fn find_near(rows: &[u64], k: usize, id: OrderId) -> Found
     let mut j = k;
     while last < j {
         j -= 1;
-        if book::has_id(book::get_row(rows, j), id) {
+        if book_search::has_id(book::get_row(rows, j), id) {
             return Found::At(j);
         }
     }
@@ -107,14 +107,14 @@ pub fn find(rows: &[u64], n: usize, places: &[u16], bounds: Bounds, id: OrderId)
 {
     let m = places.len();
     if m == 0 {
-        return book::find(rows, n, id);
+        return book_search::find(rows, n, id);
     }
-    let place = book_keys::row_of(places[bucket_of(id, m)]);
+    let place = book_buckets::row_of(places[bucket_of(id, m)]);
     if place == 0 {
         return Found::Nothing;
     }
     let Found::At(i) = find_near(rows, smaller(place, n), id) else {
-        return book::find(rows, n, id);
+        return book_search::find(rows, n, id);
     };
     Found::At(i)
 }
@@ -134,7 +134,7 @@ pub fn would_cross(
     if bounds.clear_of(side, price) {
         return false;
     }
-    book::would_cross(rows, n, side, price)
+    book_prices::would_cross(rows, n, side, price)
 }
 
 // ---- upkeep

@@ -7,7 +7,7 @@ use mathlib.Core.List.{List, [], _∷_}
 use mathlib.Core.Option.{Option, some}
 use native.Mathlib.Omega.{arith}
 use lib.Dec.{eqb}
-use lib.ListN.{length, replicate, length-replicate, getD-replicate}
+use lib.ListN.{length}
 use borrow.Author.Tests.{eqb-true, eqb-false, eq-eqb, ne-eqb}
 use Rattle.laws.proofs.Bools.{eqb-suc}
 use Rattle.message.specs.declared.L3Side.{L3Side}
@@ -17,9 +17,10 @@ use Rattle.book.specs.declared.Resting.{Resting}
 use Rattle.book.specs.Line.{Entry, present, find, rests, hasLevel, levels, sideLevels}
 use Rattle.book.specs.Rows.{sideOf, idOf, entryOf, lineOf}
 use Rattle.book.specs.Broken.{idTwice}
-use Rattle.book_keys.specs.declared.Key.{Key}
-use Rattle.book_keys.specs.declared.KeyKind.the-variants.{Id, Level, LevelOf}
-use Rattle.book_keys.specs.Keys.{keyOf, sameKey, hasKey, countKeys, someOther, Empty}
+use Rattle.book_row_keys.specs.declared.Key.{Key}
+use Rattle.book_row_keys.specs.declared.KeyKind.the-variants.{Id, Level, LevelOf}
+use Rattle.book_row_keys.specs.Keys.{keyOf, sameKey, hasKey, countKeys}
+use Rattle.book_keys.specs.Others.{someOther}
 
 -- ---- ids
 
@@ -114,6 +115,3 @@ side-keys s (o ∷ os) = go (sameSide (sideOf (o .kind)) s) (side-keys s os)
     go true ih =
         rw (side-level-key s (o .price) os, ih) (more (hasLevel s (o .price) (lineOf os)) (sideLevels s (lineOf os)) (cond (someOther s os) 1 0))
     go false ih = rw (other-key s os, ih) (one (someOther s os) (sideLevels s (lineOf os)))
-
-pub empty-zeros : (k : ℕ) → Empty (replicate {A = ℕ} k 0)
-empty-zeros k b h = getD-replicate {A = ℕ} k b 0 0 (omega (arith, length-replicate {A = ℕ} k 0))

@@ -1,16 +1,18 @@
-// The orders at a side and price, in order of arrival: how many, and the words that reads write of them.
+// An order at a level as words: an entry of `level_queue`, or one of an ahead-list.
 use book::Resting;
-use message::L3Side;
 ghost use mathlib.Core.Path.{_≡_};
 ghost use mathlib.Core.Bool.{cond};
 ghost use mathlib.Core.List.{_++_};
 ghost use Prim.Native.Nat.{_+_, _≤_};
 ghost use lib.Dec.{ltb};
 ghost use lib.ListN.{length, take, drop};
-ghost use Rattle.book.specs.Line.{sameLevel};
-ghost use Rattle.book.specs.Rows.{Lent, rowsOf, sideOf};
-ghost use Rattle.book_levels.specs.Levels.{written};
-ghost use Rattle.book_queue.specs.Queue.{rowsAt, entryWidth, entryWords, entriesWords};
+ghost use Rattle.book_queue.specs.Queue.{entryWidth, entryWords};
+
+// Words of an entry of `level_queue`: id high and low, what remains, whether its open was observed and where it entered.
+pub const QUEUE_WORDS: usize = 5;
+
+// Words of an ahead-list's entry: an order's id, high and low, and where it entered.
+pub const AHEAD_ENTRY_WORDS: usize = 3;
 
 // What is written of an order: an entry of `level_queue`, or one of an ahead-list.
 pub enum EntryForm {
@@ -19,29 +21,13 @@ pub enum EntryForm {
 }
 
 // The words of an entry.
-fn width(form: EntryForm) -> usize
+pub fn width(form: EntryForm) -> usize
     ensures { λ r. ⌜ r ≡ entryWidth form ⌝ }
 {
     match form {
-        EntryForm::Queue => 5,
-        EntryForm::Ahead => 3,
+        EntryForm::Queue => QUEUE_WORDS,
+        EntryForm::Ahead => AHEAD_ENTRY_WORDS,
     }
-}
-
-// How many of `n` rows rest at a side and price.
-pub fn order_count(rows: &[u64], n: usize, side: L3Side, price: u64) -> usize
-    requires { ⌜ Lent (now rows) n ⌝ }
-    ensures { λ r. ⌜ r ≡ length (rowsAt side price (rowsOf (now (rows .entry)) n)) ⌝ }
-{
-    let mut count: usize = 0;
-    let mut i = n;
-    while 0 < i {
-        i -= 1;
-        if book::on_level(book::get_row(rows, i), side, price) {
-            count += 1;
-        }
-    }
-    count
 }
 
 // 1 if its open was observed, else 0.
@@ -60,8 +46,8 @@ fn observed_at(o: Resting) -> u64
 
 // Writes an entry of `level_queue` at `at`.
 fn put_queue_entry(out: &mut [u64], at: usize, o: Resting)
-    requires { ⌜ at + 5 ≤ length (now out) ⌝ }
-    ensures { λ _. ⌜ now (out .exit) ≡ take at (now (out .entry)) ++ entryWords EntryForm.Queue o ++ drop (at + 5) (now (out .entry)) ⌝ }
+    requires { ⌜ at + entryWidth EntryForm.Queue ≤ length (now out) ⌝ }
+    ensures { λ _. ⌜ now (out .exit) ≡ take at (now (out .entry)) ++ entryWords EntryForm.Queue o ++ drop (at + entryWidth EntryForm.Queue) (now (out .entry)) ⌝ }
 {
     let shown = observed(o);
     let entered = observed_at(o);
@@ -74,61 +60,21 @@ fn put_queue_entry(out: &mut [u64], at: usize, o: Resting)
 
 // Writes an entry of an ahead-list at `at`.
 fn put_ahead_entry(out: &mut [u64], at: usize, o: Resting)
-    requires { ⌜ at + 3 ≤ length (now out) ⌝ }
-    ensures { λ _. ⌜ now (out .exit) ≡ take at (now (out .entry)) ++ entryWords EntryForm.Ahead o ++ drop (at + 3) (now (out .entry)) ⌝ }
+    requires { ⌜ at + entryWidth EntryForm.Ahead ≤ length (now out) ⌝ }
+    ensures { λ _. ⌜ now (out .exit) ≡ take at (now (out .entry)) ++ entryWords EntryForm.Ahead o ++ drop (at + entryWidth EntryForm.Ahead) (now (out .entry)) ⌝ }
 {
     out[at] = o.high;
     out[at + 1] = o.low;
     out[at + 2] = o.entered_at;
 }
 
-fn put_entry(out: &mut [u64], at: usize, form: EntryForm, o: Resting)
+// Writes an entry at `at`.
+pub fn put_entry(out: &mut [u64], at: usize, form: EntryForm, o: Resting)
     requires { ⌜ at + entryWidth form ≤ length (now out) ⌝ }
     ensures { λ _. ⌜ now (out .exit) ≡ take at (now (out .entry)) ++ entryWords form o ++ drop (at + entryWidth form) (now (out .entry)) ⌝ }
 {
     match form {
         EntryForm::Queue => put_queue_entry(out, at, o),
         EntryForm::Ahead => put_ahead_entry(out, at, o),
-    }
-}
-
-// Writes a row's entry if it rests at a side and price, and answers the place behind it.
-fn write_row(
-    out: &mut [u64],
-    at: usize,
-    side: L3Side,
-    price: u64,
-    form: EntryForm,
-    o: Resting,
-) -> usize
-    requires { ⌜ cond (sameLevel (sideOf (o .kind)) (o .price) side price) (at + entryWidth form) at ≤ length (now out) ⌝ }
-    ensures { λ r. ⌜ r ≡ cond (sameLevel (sideOf (o .kind)) (o .price) side price) (at + entryWidth form) at ⌝ }
-    ensures { λ _. ⌜ now (out .exit) ≡ cond (sameLevel (sideOf (o .kind)) (o .price) side price) (take at (now (out .entry)) ++ entryWords form o ++ drop (at + entryWidth form) (now (out .entry))) (now (out .entry)) ⌝ }
-{
-    if book::on_level(o, side, price) {
-        put_entry(out, at, form, o);
-        return at + width(form);
-    }
-    at
-}
-
-// Writes the orders at a side and price, in order of arrival, from the first word of `out` on.
-pub fn write_orders(
-    rows: &[u64],
-    n: usize,
-    side: L3Side,
-    price: u64,
-    form: EntryForm,
-    out: &mut [u64],
-)
-    requires { ⌜ Lent (now rows) n × (length (entriesWords form (rowsAt side price (rowsOf (now rows) n))) ≤ length (now out)) ⌝ }
-    ensures { λ _. ⌜ now (out .exit) ≡ written (entriesWords form (rowsAt side price (rowsOf (now (rows .entry)) n))) (now (out .entry)) ⌝ }
-{
-    let mut at: usize = 0;
-    let mut i: usize = 0;
-    while i < n {
-        let o = book::get_row(rows, i);
-        at = write_row(out, at, side, price, form, o);
-        i += 1;
     }
 }

@@ -19,7 +19,7 @@ use Rattle.book.specs.Rows.{sideOf, lineOf}
 use Rattle.message.specs.Values.{amountLimit}
 use Rattle.book.specs.Broken.{rowBroken, someRowBroken}
 use Rattle.book.proofs.Kept.{InRange, sound-row}
-use Rattle.book_valid.specs.Screen.{highest, lowest}
+use Rattle.book_valid.specs.Screen.{raise, lower}
 
 -- a best price as a number
 abbrev or-zero : BestPrice → ℕ
@@ -64,6 +64,16 @@ raise-better p (Price q) = refl
 lower-better : (p : ℕ) (b : BestPrice) → p ≤ amountLimit → cond (ltb p (or-above b)) p (or-above b) ≡ or-above (better Sell p b)
 lower-better p NoPrice h = rw (lt-ltb p (suc amountLimit) (omega arith))
 lower-better p (Price q) h = refl
+
+-- the highest price of a buy, or 0
+abbrev pub highest : List Resting → ℕ
+highest [] = 0
+highest (o ∷ os) = raise (highest os) o
+
+-- the lowest price of a sell, or one above all
+abbrev pub lowest : List Resting → ℕ
+lowest [] = suc amountLimit
+lowest (o ∷ os) = lower (lowest os) o
 
 highest-is : (os : List Resting) → highest os ≡ or-zero (best Buy (lineOf os))
 highest-is [] = refl

@@ -1,4 +1,4 @@
-// Number 3, as far as the rows go, and the Rust's audit of the book, both in expected linear time.
+// Number 3, as far as the rows go, in expected linear time; and what an audit of the book answers.
 use book::Resting;
 use message::L3Side;
 ghost use mathlib.Core.Path.{_≡_};
@@ -6,7 +6,6 @@ ghost use mathlib.Core.Bool.{_||_};
 ghost use Rattle.book.specs.Line.{crossed};
 ghost use Rattle.book.specs.Rows.{Lent, rowsOf, lineOf};
 ghost use Rattle.book.specs.Broken.{rowBroken, someRowBroken, wordsBroken};
-ghost use Rattle.book_valid.specs.Audit.{someEmpty, auditOf};
 ghost use Rattle.book_valid.specs.Screen.{raise, lower};
 
 // What an audit finds first. The Rust's other findings, on queues and totals that disagree with the orders, have no place here: a level is
@@ -95,42 +94,4 @@ pub fn rows_broken(rows: &[u64], n: usize, max_levels: usize) -> bool
         return false;
     }
     max_levels < book_keys::level_count(rows, n)
-}
-
-// Whether one of `n` rows has nothing left.
-fn some_empty(rows: &[u64], n: usize) -> bool
-    requires { ⌜ Lent (now rows) n ⌝ }
-    ensures { λ r. ⌜ r ≡ someEmpty (rowsOf (now (rows .entry)) n) ⌝ }
-{
-    let mut i: usize = 0;
-    while i < n {
-        let o = book::get_row(rows, i);
-        if o.remaining == 0 {
-            return true;
-        }
-        i += 1;
-    }
-    false
-}
-
-// Recomputes the book's invariants: positive sizes, each id once, not crossed.
-pub fn audit(rows: &[u64], n: usize) -> AuditAnswer
-    ensures { λ r. ⌜ r ≡ auditOf (now (rows .entry)) n ⌝ }
-{
-    if book::MOST_ROWS < n {
-        return AuditAnswer::NotLent;
-    }
-    if rows.len() < book::ROW_WORDS * n {
-        return AuditAnswer::NotLent;
-    }
-    if some_empty(rows, n) {
-        return AuditAnswer::SizeNotPositive;
-    }
-    if book_keys::id_twice(rows, n) {
-        return AuditAnswer::IdTwice;
-    }
-    if book::meet(book::best_bid(rows, n), book::best_ask(rows, n)) {
-        return AuditAnswer::Crossed;
-    }
-    AuditAnswer::Ok
 }

@@ -4,8 +4,8 @@ use lib.Dec.{eqb}
 use borrow.Author.Needs.{needs}
 use Rattle.book.specs.Rows.{rowsOf}
 use Rattle.book.proofs.Rows.{length-rows}
-use Rattle.book_keys.specs.declared.KeyKind.the-variants.{Id}
-use Rattle.book_keys.specs.Keys.{keyOf, countKeys}
+use Rattle.book_row_keys.specs.declared.KeyKind.the-variants.{Id}
+use Rattle.book_row_keys.specs.Keys.{keyOf, countKeys}
 use Rattle.book_keys.proofs.Counts.{twice-keys}
 use Rattle.book_keys.proofs.id_twice.Statement.{statement}
 use Rattle.book_keys.proofs.id_twice.Tie as tie

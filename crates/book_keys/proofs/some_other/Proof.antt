@@ -6,7 +6,7 @@ use native.Mathlib.Omega.{arith}
 use borrow.Author.Needs.{needs}
 use Rattle.book.specs.Rows.{rowsFrom, rowsOf}
 use Rattle.book.proofs.Rows.{rows-next, rows-done}
-use Rattle.book_keys.specs.Keys.{someOther}
+use Rattle.book_keys.specs.Others.{someOther}
 use Rattle.book_keys.proofs.some_other.Statement.{statement}
 use Rattle.book_keys.proofs.some_other.Tie as tie
 

@@ -11,8 +11,7 @@ use Rattle.book.specs.Rows.{rowsFrom, rowsOf}
 use Rattle.book.specs.Broken.{someRowBroken}
 use Rattle.book.proofs.Rows.{rows-prev, rows-done}
 use Rattle.book.proofs.Kept.{broken-from}
-use Rattle.book_valid.specs.Screen.{highest, lowest}
-use Rattle.book_valid.proofs.Crossing.{crossed-is}
+use Rattle.book_valid.proofs.Crossing.{highest, lowest, crossed-is}
 use Rattle.book_valid.proofs.screened.Statement.{statement}
 use Rattle.book_valid.proofs.screened.Tie as tie
 
