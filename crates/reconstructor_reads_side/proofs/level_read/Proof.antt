@@ -4,11 +4,11 @@ use borrow.Author.Tests.{ltb-false}
 use Rattle.book.specs.Memory.{memory}
 use Rattle.reconstructor_checks.proofs.StateChecks.{sound, rows-ready}
 use Rattle.reconstructor_view.proofs.Readable.{refused-for, found-valid}
 use Rattle.reconstructor_reads.specs.declared.LevelAnswer.the-variants.{Shown}
 use Rattle.reconstructor_reads.specs.LevelReads.{Shows, levelRead, leaves, scratchShort}
 use borrow.Author.Needs.{needs}
-use Rattle.reconstructor_reads.proofs.level_read.Statement.{statement}
-use Rattle.reconstructor_reads.proofs.level_read.Tie as tie
+use Rattle.reconstructor_reads_side.proofs.level_read.Statement.{statement}
+use Rattle.reconstructor_reads_side.proofs.level_read.Tie as tie
 
 show-levels-requires : tie.Need-show-levels-requires
 show-levels-requires c κs =

@@ -1,9 +1,9 @@
 use mathlib.Core.Path.{ap}
 use borrow.Author.Needs.{needs}
 use Rattle.reconstructor_reads.specs.LevelReads.{StaleRead}
 use Rattle.reconstructor_reads.specs.Numbers.{staleTold}
-use Rattle.reconstructor_reads.proofs.stale_l2.Statement.{statement}
-use Rattle.reconstructor_reads.proofs.stale_l2.Tie as tie
+use Rattle.reconstructor_reads_stale.proofs.stale_l2.Statement.{statement}
+use Rattle.reconstructor_reads_stale.proofs.stale_l2.Tie as tie
 
 returns : tie.Need-returns
 returns c =

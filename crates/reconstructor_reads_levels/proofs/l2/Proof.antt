@@ -1,9 +1,9 @@
 use mathlib.Core.Path.{ap}
 use borrow.Author.Needs.{needs}
 use Rattle.reconstructor_reads.specs.LevelReads.{LevelRead}
 use Rattle.reconstructor_reads.specs.Numbers.{levelTold}
-use Rattle.reconstructor_reads.proofs.l2.Statement.{statement}
-use Rattle.reconstructor_reads.proofs.l2.Tie as tie
+use Rattle.reconstructor_reads_levels.proofs.l2.Statement.{statement}
+use Rattle.reconstructor_reads_levels.proofs.l2.Tie as tie
 
 returns : tie.Need-returns
 returns c =

@@ -1,10 +1,10 @@
 use mathlib.Core.Path.{ap}
 use Rattle.message.proofs.Signed.{back}
 use borrow.Author.Needs.{needs}
 use Rattle.reconstructor_reads.specs.LevelReads.{LevelRead}
 use Rattle.reconstructor_reads.specs.Numbers.{levelTold}
-use Rattle.reconstructor_reads.proofs.level_queue.Statement.{statement}
-use Rattle.reconstructor_reads.proofs.level_queue.Tie as tie
+use Rattle.reconstructor_reads_queue.proofs.level_queue.Statement.{statement}
+use Rattle.reconstructor_reads_queue.proofs.level_queue.Tie as tie
 
 returns : tie.Need-returns
 returns c =

@@ -5,11 +5,11 @@ use Rattle.message.proofs.Signed.{sized}
 use Rattle.book.specs.Memory.{memory}
 use Rattle.reconstructor_checks.proofs.StateChecks.{rows-ready}
 use Rattle.reconstructor_view.proofs.Readable.{refused-for, found-valid}
 use Rattle.reconstructor_reads.specs.declared.LevelAnswer.the-variants.{Shown}
 use Rattle.reconstructor_reads.specs.LevelReads.{Shows, levelRead, leaves, scratchShort}
 use borrow.Author.Needs.{needs}
-use Rattle.reconstructor_reads.proofs.level_queue_under.Statement.{statement}
-use Rattle.reconstructor_reads.proofs.level_queue_under.Tie as tie
+use Rattle.reconstructor_reads_queue.proofs.level_queue_under.Statement.{statement}
+use Rattle.reconstructor_reads_queue.proofs.level_queue_under.Tie as tie
 
 show-queue-requires : tie.Need-show-queue-requires
 show-queue-requires c κs =

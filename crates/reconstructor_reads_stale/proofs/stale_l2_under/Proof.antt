@@ -6,11 +6,11 @@ use Rattle.book.specs.Memory.{memory}
 use Rattle.reconstructor_checks.proofs.StateChecks.{said, said-none, sound, rows-ready}
 use Rattle.reconstructor_view.specs.ValueReads.{readRefusalOf}
 use Rattle.reconstructor_view.proofs.Readable.{readable}
 use Rattle.reconstructor_reads.specs.declared.StaleAnswer.the-variants.{Shown}
 use Rattle.reconstructor_reads.specs.LevelReads.{Shows, staleRead, leavesStale, scratchShort}
 use borrow.Author.Needs.{needs}
-use Rattle.reconstructor_reads.proofs.stale_l2_under.Statement.{statement}
-use Rattle.reconstructor_reads.proofs.stale_l2_under.Tie as tie
+use Rattle.reconstructor_reads_stale.proofs.stale_l2_under.Statement.{statement}
+use Rattle.reconstructor_reads_stale.proofs.stale_l2_under.Tie as tie
 
 show-levels-requires : tie.Need-show-levels-requires
 show-levels-requires c κs =

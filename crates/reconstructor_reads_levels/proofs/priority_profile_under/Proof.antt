@@ -1,6 +1,6 @@
 use borrow.Author.Needs.{needs}
-use Rattle.reconstructor_reads.proofs.priority_profile_under.Statement.{statement}
-use Rattle.reconstructor_reads.proofs.priority_profile_under.Tie as tie
+use Rattle.reconstructor_reads_levels.proofs.priority_profile_under.Statement.{statement}
+use Rattle.reconstructor_reads_levels.proofs.priority_profile_under.Tie as tie
 
 returns : tie.Need-returns
 returns c = c .before .before .before .before .level-read .ensures
