@@ -1,6 +1,6 @@
 use borrow.Author.Needs.{needs}
-use Rattle.reconstructor_handshake.proofs.applied_by.Statement.{statement}
-use Rattle.reconstructor_handshake.proofs.applied_by.Tie as tie
+use Rattle.reconstructor_handshake_rules.proofs.applied_by.Statement.{statement}
+use Rattle.reconstructor_handshake_rules.proofs.applied_by.Tie as tie
 
 returns : tie.Need-returns
 returns c = rw (c .before .enum-told .given .1, c .saturating-next .ensures)

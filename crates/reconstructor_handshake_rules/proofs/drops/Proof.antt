@@ -1,6 +1,6 @@
 use borrow.Author.Needs.{needs}
-use Rattle.reconstructor_handshake.proofs.drops.Statement.{statement}
-use Rattle.reconstructor_handshake.proofs.drops.Tie as tie
+use Rattle.reconstructor_handshake_rules.proofs.drops.Statement.{statement}
+use Rattle.reconstructor_handshake_rules.proofs.drops.Tie as tie
 
 returns : tie.Need-returns
 returns c = rw (c .before .same-product .ensures)
