@@ -9,7 +9,7 @@ WORDS = ("rows",)
 RECORDS = Slice("segments", "R", "ys", "zs", lent=True)
 
 APPLY = Shell(
-    file="crates/reconstructor_apply_list/proofs/ApplyShell.antt",
+    file="crates/reconstructor_shells/proofs/ApplyShell.antt",
     function="apply",
     argument="the segment list is lent to `last_segment`, the words are passed on for good to the work, and the list is lent to `rewrite_last`.",
     data="B D Y X",
@@ -25,7 +25,7 @@ APPLY = Shell(
 )
 
 BOOTSTRAP = Shell(
-    file="crates/reconstructor_bootstrap_list/proofs/BootShell.antt",
+    file="crates/reconstructor_shells/proofs/BootShell.antt",
     function="bootstrap",
     argument="that of `apply`, with bytes for the message, and a record that is appended.",
     data="B D Y",
@@ -44,7 +44,7 @@ BOOTSTRAP = Shell(
 )
 
 STEP = Shell(
-    file="crates/reconstructor_handshake/proofs/StepShell.antt",
+    file="crates/reconstructor_shells/proofs/StepShell.antt",
     function="Handshake::step",
     argument="that of `apply`, with one more value.",
     data="Z B D Y X",
@@ -60,7 +60,7 @@ STEP = Shell(
 )
 
 SEGMENT = Shell(
-    file="crates/reconstructor_view/proofs/SegmentShell.antt",
+    file="crates/reconstructor_shells/proofs/SegmentShell.antt",
     function="segment",
     argument="the list is passed on for good to `last_segment`, and the record that this answers to the work by value.",
     data="B Y",

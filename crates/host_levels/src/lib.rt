@@ -79,7 +79,7 @@ pub fn level_queue(
     if count.len() < 1 {
         return unwritten(book, rows, lacks_scratch(book, scratch.len()));
     }
-    let answer = reconstructor_reads::level_queue(
+    let answer = reconstructor_reads_queue::level_queue(
         book,
         rows,
         scratch,
@@ -108,7 +108,13 @@ pub fn priority_profile(
     if count.len() < 1 {
         return unwritten(book, rows, lacks_scratch(book, scratch.len()));
     }
-    let answer = reconstructor_reads::priority_profile(book, rows, scratch, load_side(side), out);
+    let answer = reconstructor_reads_levels::priority_profile(
+        book,
+        rows,
+        scratch,
+        load_side(side),
+        out,
+    );
     store_level(count, answer)
 }
 
@@ -130,7 +136,7 @@ pub fn l2(
     if count.len() < 1 {
         return unwritten(book, rows, lacks_scratch(book, scratch.len()));
     }
-    let answer = reconstructor_reads::l2(book, rows, scratch, load_side(side), out);
+    let answer = reconstructor_reads_levels::l2(book, rows, scratch, load_side(side), out);
     store_level(count, answer)
 }
 
@@ -152,6 +158,6 @@ pub fn stale_l2(
     if count.len() < 1 {
         return unwritten_stale(book, rows, lacks_scratch(book, scratch.len()));
     }
-    let answer = reconstructor_reads::stale_l2(book, rows, scratch, load_side(side), out);
+    let answer = reconstructor_reads_stale::stale_l2(book, rows, scratch, load_side(side), out);
     store_stale(count, answer)
 }

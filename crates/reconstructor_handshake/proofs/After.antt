@@ -1,17 +1,13 @@
--- What `apply` decides, stored in the handshake part by part, is what it makes of it.
+-- What an answer of `apply` makes of a handshake, stored part by part.
 -- Assumes nothing.
 use Prim.Native.Nat.{ℕ}
 use mathlib.Core.Path.{_≡_, refl, ap, ap₂, _∙_}
 use mathlib.Core.Bool.{Bool, true, false, _||_}
 use Rattle.reconstructor_answers.specs.declared.ApplyAnswer.{ApplyAnswer}
 use Rattle.reconstructor_answers.specs.declared.ApplyAnswer.the-variants as answers
-use Rattle.reconstructor.specs.declared.Work.{Work}
-use Rattle.book.specs.Memory.{Memory}
-use Rattle.reconstructor.specs.Applied.{Worked, worked}
 use Rattle.reconstructor_handshake.specs.declared.Handshake.{Handshake}
-use Rattle.reconstructor_handshake.specs.declared.StepAnswer.the-variants.{Stepped}
-use Rattle.reconstructor_handshake.specs.Step.{with, after, StepWorked, decided}
-use Rattle.reconstructor_handshake.specs.Inner.{ends, appliedBy}
+use Rattle.reconstructor_handshake.specs.Step.{with, after}
+use Rattle.reconstructor_handshake_rules.specs.Answers.{ends, appliedBy}
 
 or-none : (b : Bool) → (b || false) ≡ b
 or-none true = refl
@@ -37,9 +33,5 @@ module _ (h : Handshake) where
   after-parts (answers.Invalidated i) = over
   after-parts (answers.AwaitingSnapshot i) = over
 
-  abbrev left : Handshake → Worked → StepWorked
-  left k w = record { answer = Stepped (w .answer); handshake = k; book = w .book; memory = w .memory; segment = w .segment }
-
-  pub decided-parts : (w : Work) (mem : Memory) (x : Worked) (e : Bool) (n : ℕ) → e ≡ (h .ended || ends (w .answer)) → n ≡ appliedBy (h .applied) (w .answer) → worked w mem ≡ x
-      → left (with h e n) (worked w mem) ≡ decided h x
-  decided-parts w mem x e n p q r = ap (λ (k : Handshake). left k (worked w mem)) (ap₂ (with h) p q ∙ after-parts (w .answer)) ∙ ap (decided h) r
+  pub after-stored : (a : ApplyAnswer) (e : Bool) (n : ℕ) → e ≡ (h .ended || ends a) → n ≡ appliedBy (h .applied) a → with h e n ≡ after h a
+  after-stored a e n p q = ap₂ (with h) p q ∙ after-parts a

@@ -1,3 +1,2 @@
 pub mod After
 pub mod Step
-pub mod StepShell

@@ -1,9 +1,13 @@
 // The snapshot handshake: after an accepted snapshot, buffered messages are stepped one by one; those that the snapshot already has are dropped.
 use message::L3Message;
-use message::ProductId;
+use reconstructor::Work;
 use reconstructor_answers::ApplyAnswer;
+use reconstructor_apply::apply_trusted;
 use reconstructor_checks::Checked;
 use reconstructor_counts::Counter;
+use reconstructor_handshake_rules::applied_by;
+use reconstructor_handshake_rules::drops;
+use reconstructor_handshake_rules::ends;
 use reconstructor_segments::Segment;
 use reconstructor_segments::SegmentName;
 use reconstructor_state::BookReconstructor;
@@ -14,8 +18,8 @@ ghost use Rattle.book.specs.Rows.{mostRows};
 ghost use Rattle.book.specs.Memory.{memory};
 ghost use Rattle.reconstructor_state.specs.State.{ceiling, segmentOf};
 ghost use Rattle.reconstructor_checks.specs.StateChecks.{Trusted};
-ghost use Rattle.reconstructor_handshake.specs.Step.{newHandshake, stepTold, stepNumber, otherSegment, drops, stepWorked, stepLeaves, steppedTo, stepped};
-ghost use Rattle.reconstructor_handshake.specs.Inner.{ends, appliedBy, stepTo, stepReplyOf};
+ghost use Rattle.reconstructor_handshake.specs.Step.{newHandshake, stepTold, stepNumber, otherSegment, stepWorked, stepLeaves, steppedTo, stepped};
+ghost use Rattle.reconstructor_handshake.specs.Inner.{decidedOf, admittedTo, stepTo, stepReplyOf};
 
 // A handshake for one segment, with how many messages it applied. It hands itself back at each step.
 pub struct Handshake {
@@ -78,44 +82,6 @@ impl StepAnswer {
     }
 }
 
-// Whether the snapshot already has a message.
-fn drops(product: ProductId, start_seq: u64, message: L3Message) -> bool
-    ensures { λ r. ⌜ r ≡ drops product «start_seq» message ⌝ }
-{
-    let got = message.product_id;
-    message::same_product(got, product) & (message.sequence <= start_seq)
-}
-
-// Whether an answer of `apply` ends the handshake: 16 and 17 do.
-fn ends(answer: ApplyAnswer) -> bool
-    ensures { λ r. ⌜ r ≡ ends answer ⌝ }
-{
-    match answer {
-        ApplyAnswer::Applied(_) => false,
-        ApplyAnswer::Unusable(_) => false,
-        ApplyAnswer::AmountOutOfRange => false,
-        ApplyAnswer::WrongProduct => false,
-        ApplyAnswer::NotBootstrapped => false,
-        ApplyAnswer::Invalidated(_) => true,
-        ApplyAnswer::AwaitingSnapshot(_) => true,
-    }
-}
-
-// The number applied, once an answer is in.
-fn applied_by(applied: u64, answer: ApplyAnswer) -> u64
-    ensures { λ r. ⌜ r ≡ appliedBy applied answer ⌝ }
-{
-    match answer {
-        ApplyAnswer::Applied(_) => reconstructor_counts::saturating_next(applied),
-        ApplyAnswer::Unusable(_) => applied,
-        ApplyAnswer::AmountOutOfRange => applied,
-        ApplyAnswer::WrongProduct => applied,
-        ApplyAnswer::NotBootstrapped => applied,
-        ApplyAnswer::Invalidated(_) => applied,
-        ApplyAnswer::AwaitingSnapshot(_) => applied,
-    }
-}
-
 impl Handshake {
     // The handshake of the segment that the book is in. Before any snapshot there is none, and it has ended.
     pub fn new(book: BookReconstructor) -> Self
@@ -149,9 +115,45 @@ impl Handshake {
         }
     }
 
-    // A step of a state that passes 1, 2 and 3, with the last segment's record by value. It alters the handshake's end and its number applied, and hands it back.
+    // What `apply` has decided: it alters the handshake's end and its number applied, and hands it back.
+    fn decided(mut self, work: Work) -> StepWork
+        ensures { λ r. ⌜ r ≡ decidedOf self work ⌝ }
+    {
+        let book = work.book;
+        let answer = work.answer;
+        let segment = work.segment;
+        self.ended = self.ended | ends(answer);
+        self.applied = applied_by(self.applied, answer);
+        StepWork {
+            handshake: self,
+            book,
+            answer: StepAnswer::Stepped(answer),
+            segment,
+        }
+    }
+
+    // A step that 9 and 5 let pass: dropped, or else `apply` decides.
+    fn step_admitted(
+        self,
+        book: BookReconstructor,
+        rows: &mut [u64],
+        last: Segment,
+        message: L3Message,
+    ) -> StepWork
+        requires { ⌜ Trusted mostRows book (memory (now rows)) ⌝ }
+        ensures { λ r. ⌜ stepWorked r (memory (now (rows .exit))) ≡ admittedTo self book (memory (now (rows .entry))) last message ⌝ }
+    {
+        let product = book.product_id;
+        if drops(product, last.start_seq, message) {
+            let counted = book.counting(Counter::HandshakeDropped);
+            return self.unchanged(counted, last, StepAnswer::Dropped);
+        }
+        self.decided(apply_trusted(book, rows, last, message))
+    }
+
+    // A step of a state that passes 1, 2 and 3, with the last segment's record by value.
     fn step_trusted(
-        mut self,
+        self,
         book: BookReconstructor,
         rows: &mut [u64],
         last: Segment,
@@ -168,23 +170,7 @@ impl Handshake {
             let answer = StepAnswer::Stepped(ApplyAnswer::AmountOutOfRange);
             return self.unchanged(book, last, answer);
         }
-        let product = book.product_id;
-        if drops(product, last.start_seq, message) {
-            let counted = book.counting(Counter::HandshakeDropped);
-            return self.unchanged(counted, last, StepAnswer::Dropped);
-        }
-        let work = reconstructor_apply::apply_trusted(book, rows, last, message);
-        let next = work.book;
-        let answer = work.answer;
-        let segment = work.segment;
-        self.ended = self.ended | ends(answer);
-        self.applied = applied_by(self.applied, answer);
-        StepWork {
-            handshake: self,
-            book: next,
-            answer: StepAnswer::Stepped(answer),
-            segment,
-        }
+        self.step_admitted(book, rows, last, message)
     }
 
     // A step under a ceiling, with the last segment's record by value, of a list of `lent` records.

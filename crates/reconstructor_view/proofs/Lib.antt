@@ -1,3 +1,2 @@
 pub mod Readable
 pub mod ByValue
-pub mod SegmentShell

@@ -41,7 +41,7 @@ use Rattle.reconstructor_state.specs.State.{ceiling}
 use Rattle.reconstructor_answers.specs.Numbers.{answerTold}
 use Rattle.reconstructor.specs.Applied.{Parts, leaves, applied, worked, appliedTo, putBack}
 use Rattle.reconstructor.specs.Inner.{replyOf}
-use Rattle.reconstructor_apply_list.proofs.ApplyShell as shell
+use Rattle.reconstructor_shells.proofs.ApplyShell as shell
 use Rattle.reconstructor_apply_list.proofs.apply.Key.{name}
 use Rattle.reconstructor_apply_list.proofs.apply as f
 use Rattle.reconstructor_apply_list.proofs.apply.Statement as stated

@@ -48,7 +48,7 @@ use Rattle.reconstructor_state.specs.State.{ceiling}
 use Rattle.reconstructor_bootstrap.specs.Numbers.{snapshotTold}
 use Rattle.reconstructor_bootstrap.specs.Bootstrap.{Booted, booted, Parts, leaves, bootstrappedTo, bootstrapped, putBack}
 use Rattle.reconstructor_bootstrap.specs.Places.{replyOf}
-use Rattle.reconstructor_bootstrap_list.proofs.BootShell as shell
+use Rattle.reconstructor_shells.proofs.BootShell as shell
 use Rattle.reconstructor_bootstrap_list.proofs.bootstrap.Key.{name}
 use Rattle.reconstructor_bootstrap_list.proofs.bootstrap as f
 use Rattle.reconstructor_bootstrap_list.proofs.bootstrap.Statement as stated

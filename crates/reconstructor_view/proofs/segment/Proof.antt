@@ -29,7 +29,7 @@ use Rattle.reconstructor_view.proofs.SegmentAnswer.Laws as Y′
 use Rattle.reconstructor_view.specs.ValueReads.{recordsTo, segmentReadTo, segmentRead}
 use Rattle.reconstructor_view.specs.Numbers.{segmentTold}
 use Rattle.reconstructor_view.proofs.ByValue.{read-by-value}
-use Rattle.reconstructor_view.proofs.SegmentShell as shell
+use Rattle.reconstructor_shells.proofs.SegmentShell as shell
 use Rattle.reconstructor_view.proofs.segment.Key.{name}
 use Rattle.reconstructor_view.proofs.segment as f
 use Rattle.reconstructor_view.proofs.segment.Statement as stated

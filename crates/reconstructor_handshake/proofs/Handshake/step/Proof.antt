@@ -42,7 +42,7 @@ use Rattle.book.specs.Memory.{memory}
 use Rattle.reconstructor_state.specs.State.{ceiling}
 use Rattle.reconstructor_handshake.specs.Step.{StepParts, stepTold, stepWorked, stepLeaves, steppedTo, stepped, putBack}
 use Rattle.reconstructor_handshake.specs.Inner.{stepReplyOf}
-use Rattle.reconstructor_handshake.proofs.StepShell as shell
+use Rattle.reconstructor_shells.proofs.StepShell as shell
 use Rattle.reconstructor_handshake.proofs.Handshake.step.Key.{name}
 use Rattle.reconstructor_handshake.proofs.Handshake.step as f
 use Rattle.reconstructor_handshake.proofs.Handshake.step.Statement as stated

@@ -1,0 +1,14 @@
+use mathlib.Core.Path.{ap}
+use borrow.Author.Needs.{needs}
+use Rattle.reconstructor_reads.specs.LevelReads.{LevelRead}
+use Rattle.reconstructor_reads.specs.Numbers.{levelTold}
+use Rattle.reconstructor_reads_levels.proofs.priority_profile.Statement.{statement}
+use Rattle.reconstructor_reads_levels.proofs.priority_profile.Tie as tie
+
+returns : tie.Need-returns
+returns c =
+    let e = c .before .before .before .before .priority-profile-under .ensures in
+    (e, ap (λ (x : LevelRead). levelTold (x .answer)) e)
+
+pub priority-profile-spec : {M : Type 1} → statement M
+priority-profile-spec = tie.close (tie.spec (λ c κs. search needs) (λ c. search needs) (λ c. search needs) returns)

@@ -1,0 +1,4 @@
+pub mod ApplyShell
+pub mod BootShell
+pub mod StepShell
+pub mod SegmentShell
