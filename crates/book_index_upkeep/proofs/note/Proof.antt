@@ -1,6 +1,6 @@
 use borrow.Author.Needs.{needs}
-use Rattle.book_index.proofs.note.Statement.{statement}
-use Rattle.book_index.proofs.note.Tie as tie
+use Rattle.book_index_upkeep.proofs.note.Statement.{statement}
+use Rattle.book_index_upkeep.proofs.note.Tie as tie
 
 returns-2 : tie.Need-returns-2
 returns-2 c = rw (c .before .before .before .before .before .event .given .1, c .before .before .mark .ensures)

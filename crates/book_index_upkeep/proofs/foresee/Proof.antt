@@ -5,8 +5,8 @@ use mir.Syntax.{w64}
 use mir.Val.{toZ, ofZ}
 use borrow.Author.Needs.{needs}
 use Rattle.message.specs.Amounts.{natOf}
-use Rattle.book_index.proofs.foresee.Statement.{statement}
-use Rattle.book_index.proofs.foresee.Tie as tie
+use Rattle.book_index_upkeep.proofs.foresee.Statement.{statement}
+use Rattle.book_index_upkeep.proofs.foresee.Tie as tie
 
 returns : tie.Need-returns
 returns c = rw (c .enum-told .given .1) (c .before .before .before .pre .1, tt)

@@ -7,10 +7,10 @@ use native.Mathlib.Omega.{arith}
 use borrow.Author.Needs.{needs}
 use Rattle.book.specs.Rows.{rowsFrom, sideOf}
 use Rattle.book.proofs.Rows.{rows-prev, rows-done}
 use Rattle.book_index.specs.Index.{all, rowBounded}
 use Rattle.book_index.proofs.Index.{and-both, bounded-now, within-kept}
-use Rattle.book_index.proofs.bounds_of.Statement.{statement}
-use Rattle.book_index.proofs.bounds_of.Tie as tie
+use Rattle.book_index_upkeep.proofs.bounds_of.Statement.{statement}
+use Rattle.book_index_upkeep.proofs.bounds_of.Tie as tie
 
 abbrev Inv-loop : tie.InvT-loop
 Inv-loop rows n bounds₀ i₀ bounds i = (i ≤ n) × (all (rowBounded bounds) (rowsFrom rows i (n - i)) ≡ true)

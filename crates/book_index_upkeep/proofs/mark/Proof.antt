@@ -2,9 +2,9 @@ use mathlib.Core.Path.{sym}
 use native.Mathlib.Omega.{arith}
 use lib.Seq.{set-out}
 use borrow.Author.Needs.{needs}
 use Rattle.book_index.specs.Index.{markedAt}
-use Rattle.book_index.proofs.mark.Statement.{statement}
-use Rattle.book_index.proofs.mark.Tie as tie
+use Rattle.book_index_upkeep.proofs.mark.Statement.{statement}
+use Rattle.book_index_upkeep.proofs.mark.Tie as tie
 
 returns : tie.Need-returns
 unfolding markedAt

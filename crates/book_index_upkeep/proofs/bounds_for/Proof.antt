@@ -1,8 +1,8 @@
 use borrow.Author.Needs.{needs}
 use Rattle.book_index.proofs.Index.{within-kept, bounded-now}
 use Rattle.book.specs.Rows.{rowsOf}
-use Rattle.book_index.proofs.bounds_for.Statement.{statement}
-use Rattle.book_index.proofs.bounds_for.Tie as tie
+use Rattle.book_index_upkeep.proofs.bounds_for.Statement.{statement}
+use Rattle.book_index_upkeep.proofs.bounds_for.Tie as tie
 
 returns : tie.Need-returns
 returns c =

@@ -6,10 +6,10 @@ use native.Mathlib.Omega.{arith}
 use borrow.Author.Needs.{needs}
 use lib.ListN.{length}
 use Rattle.book.specs.Rows.{rowsOf}
 use Rattle.book_index.specs.Index.{all, rowMarked}
 use Rattle.book_index.proofs.Index.{marks-none, marks-next}
-use Rattle.book_index.proofs.mark_rows.Statement.{statement}
-use Rattle.book_index.proofs.mark_rows.Tie as tie
+use Rattle.book_index_upkeep.proofs.mark_rows.Statement.{statement}
+use Rattle.book_index_upkeep.proofs.mark_rows.Tie as tie
 
 abbrev Inv-loop : tie.InvT-loop
 Inv-loop rows n places₀ i₀ places i = (i ≤ n) × (length places ≡ length places₀) × (all (rowMarked places) (rowsOf rows i) ≡ true)
