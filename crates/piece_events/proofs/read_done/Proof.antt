@@ -3,8 +3,8 @@
 use borrow.Author.Tests.{ne-eqb, eq-eqb}
 use borrow.Author.Needs.{needs}
 use Rattle.piece.specs.Piece.{readDone, eventIf}
-use Rattle.piece_messages.proofs.read_done.Statement.{statement}
-use Rattle.piece_messages.proofs.read_done.Tie as tie
+use Rattle.piece_events.proofs.read_done.Statement.{statement}
+use Rattle.piece_events.proofs.read_done.Tie as tie
 
 returns : tie.Need-returns
 unfolding readDone eventIf

@@ -2,8 +2,8 @@
 -- the length; so its contract rewrites one part of the conjunction.
 use borrow.Author.Needs.{needs}
 use Rattle.piece.specs.Piece.{changeShaped}
-use Rattle.piece_messages.proofs.change_shaped.Statement.{statement}
-use Rattle.piece_messages.proofs.change_shaped.Tie as tie
+use Rattle.piece_changes.proofs.change_shaped.Statement.{statement}
+use Rattle.piece_changes.proofs.change_shaped.Tie as tie
 
 returns : tie.Need-returns
 unfolding changeShaped

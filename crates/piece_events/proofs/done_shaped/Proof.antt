@@ -1,7 +1,7 @@
 use borrow.Author.Needs.{needs}
 use Rattle.piece.specs.Piece.{doneShaped}
-use Rattle.piece_messages.proofs.done_shaped.Statement.{statement}
-use Rattle.piece_messages.proofs.done_shaped.Tie as tie
+use Rattle.piece_events.proofs.done_shaped.Statement.{statement}
+use Rattle.piece_events.proofs.done_shaped.Tie as tie
 
 returns : tie.Need-returns
 unfolding doneShaped

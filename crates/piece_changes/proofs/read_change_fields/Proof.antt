@@ -2,8 +2,8 @@
 -- field by field; the last field ends at byte 100, the length.
 use borrow.Author.Needs.{needs}
 use Rattle.piece.specs.Piece.{changeFieldsAt}
-use Rattle.piece_messages.proofs.read_change_fields.Statement.{statement}
-use Rattle.piece_messages.proofs.read_change_fields.Tie as tie
+use Rattle.piece_changes.proofs.read_change_fields.Statement.{statement}
+use Rattle.piece_changes.proofs.read_change_fields.Tie as tie
 
 returns : tie.Need-returns
 unfolding changeFieldsAt

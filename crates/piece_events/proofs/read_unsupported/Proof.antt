@@ -1,8 +1,8 @@
 use borrow.Author.Tests.{ne-eqb, eq-eqb}
 use borrow.Author.Needs.{needs}
 use Rattle.piece.specs.Piece.{readUnsupported, eventIf}
-use Rattle.piece_messages.proofs.read_unsupported.Statement.{statement}
-use Rattle.piece_messages.proofs.read_unsupported.Tie as tie
+use Rattle.piece_events.proofs.read_unsupported.Statement.{statement}
+use Rattle.piece_events.proofs.read_unsupported.Tie as tie
 
 returns : tie.Need-returns
 unfolding readUnsupported eventIf

@@ -1,6 +1,6 @@
 use Rattle.piece.specs.Piece.{eventIf}
-use Rattle.piece_messages.proofs.event_if.Statement.{statement}
-use Rattle.piece_messages.proofs.event_if.Tie as tie
+use Rattle.piece_events.proofs.event_if.Statement.{statement}
+use Rattle.piece_events.proofs.event_if.Tie as tie
 
 returns : tie.Need-returns
 unfolding eventIf

@@ -1,8 +1,8 @@
 use borrow.Author.Tests.{ne-eqb, eq-eqb}
 use borrow.Author.Needs.{needs}
 use Rattle.piece.specs.Piece.{readChange, eventIf}
-use Rattle.piece_messages.proofs.read_change.Statement.{statement}
-use Rattle.piece_messages.proofs.read_change.Tie as tie
+use Rattle.piece_changes.proofs.read_change.Statement.{statement}
+use Rattle.piece_changes.proofs.read_change.Tie as tie
 
 returns : tie.Need-returns
 unfolding readChange eventIf

@@ -1,7 +1,7 @@
 use mathlib.Core.Path.{refl}
 use Rattle.piece.specs.Piece.{changeOf}
-use Rattle.piece_messages.proofs.change_of.Statement.{statement}
-use Rattle.piece_messages.proofs.change_of.Tie as tie
+use Rattle.piece_changes.proofs.change_of.Statement.{statement}
+use Rattle.piece_changes.proofs.change_of.Tie as tie
 
 returns : tie.Need-returns
 unfolding changeOf
