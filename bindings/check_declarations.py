@@ -117,8 +117,8 @@ SIZES = {
     "MESSAGE_WORDS": ("piece/src/lib.rt", "MESSAGE_WORDS", "piece/specs/Words.antt", "messageWords"),
     "HANDSHAKE_WORDS": ("host_handshake/src/lib.rt", "HANDSHAKE_WORDS", "host_handshake/specs/HandshakeWords.antt", "handshakeWords"),
     "ESTIMATE_WORDS": ("host_estimate_words/src/lib.rt", "ESTIMATE_WORDS", "host_estimate_words/specs/Estimates.antt", "estimateWords"),
-    "QUEUE_WORDS": ("reconstructor_reads/src/lib.rt", "QUEUE_WORDS", "book_queue/specs/Queue.antt", "entryWidth Queue"),
-    "AHEAD_WORDS": ("queue/src/lib.rt", "AHEAD_ENTRY_WORDS", "book_queue/specs/Queue.antt", "entryWidth Ahead"),
+    "QUEUE_WORDS": ("book_queue/src/lib.rt", "QUEUE_WORDS", "book_queue/specs/Queue.antt", "entryWidth Queue"),
+    "AHEAD_WORDS": ("book_queue/src/lib.rt", "AHEAD_ENTRY_WORDS", "book_queue/specs/Queue.antt", "entryWidth Ahead"),
     "PROFILE_WORDS": ("reconstructor_reads/src/lib.rt", "PROFILE_WORDS", "reconstructor_reads/specs/LevelReads.antt", "profileWords"),
     "L2_WORDS": ("reconstructor_reads/src/lib.rt", "L2_WORDS", "reconstructor_reads/specs/LevelReads.antt", "l2Words"),
 }

@@ -8,9 +8,6 @@ use reconstructor_view::ViewError;
 ghost use mathlib.Core.Path.{_≡_};
 ghost use Rattle.queue.specs.Numbers.{queueErrorNumber};
 
-// Words of an ahead-list's entry: an order's id, high and low, and where it entered.
-pub const AHEAD_ENTRY_WORDS: usize = 3;
-
 // A hypothesis a queue result rests on.
 pub enum Assumption {
     // A hypothetical order created now joins the back of the visible queue at its price.

@@ -1,7 +1,7 @@
 // The volume ahead of an estimate's order, worked `_under` a ceiling.
+use book_queue::AHEAD_ENTRY_WORDS;
 use message::L3Side;
 use message::OrderId;
-use queue::AHEAD_ENTRY_WORDS;
 use queue::AheadAnswer;
 use queue::Anchor;
 use queue::Assumption;

@@ -1,9 +1,9 @@
 // Estimates for an order created now and for our own order, each worked `_under` a ceiling.
 use book::Resting;
+use book_queue::AHEAD_ENTRY_WORDS;
 use book_queue::EntryForm;
 use message::L3Side;
 use message::OrderId;
-use queue::AHEAD_ENTRY_WORDS;
 use queue::Anchor;
 use queue::EstimateAnswer;
 use queue::QueueError;
@@ -53,11 +53,11 @@ pub fn queue_estimate_under(
     match reconstructor_view::valid_book(top, book, rows, false) {
         SequenceAnswer::Refused(why) => EstimateAnswer::Refused(QueueError::View(why)),
         SequenceAnswer::Valid { last_seq } => {
-            let orders = book_queue::order_count(rows, n, side, at);
+            let orders = book_orders::order_count(rows, n, side, at);
             if ahead.len() < AHEAD_ENTRY_WORDS * orders {
                 return EstimateAnswer::Refused(QueueError::OutputTooSmall);
             }
-            book_queue::write_orders(rows, n, side, at, EntryForm::Ahead, ahead);
+            book_orders::write_orders(rows, n, side, at, EntryForm::Ahead, ahead);
             EstimateAnswer::Estimate(QueueEstimate {
                 side,
                 price,

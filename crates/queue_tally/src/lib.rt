@@ -1,9 +1,9 @@
 // Sums over the orders ahead of an own order: what an ahead-list's entries and the rows before our own add up to.
 use book::Found;
 use book::Resting;
+use book_queue::AHEAD_ENTRY_WORDS;
 use message::L3Side;
 use message::OrderId;
-use queue::AHEAD_ENTRY_WORDS;
 use queue::Rests;
 use queue::Tally;
 use reconstructor_state::SizeDecrease;
@@ -45,7 +45,7 @@ pub fn resting(rows: &[u64], n: usize, id: OrderId) -> Rests
     requires { ⌜ Lent (now rows) n ⌝ }
     ensures { λ r. ⌜ RestsFor (rowWith id (ordersOf (memory (now (rows .entry))) n)) r ⌝ }
 {
-    match book::find(rows, n, id) {
+    match book_search::find(rows, n, id) {
         Found::At(i) => Rests::Row(book::get_row(rows, i)),
         Found::Nothing => Rests::Gone,
     }
@@ -154,8 +154,8 @@ fn tally_row(o: Resting, side: L3Side, price: u64, own: OrderId, since: u64, t: 
     requires { ⌜ (o .remaining ≤ amountLimit) × Small t ⌝ }
     ensures { λ r. ⌜ r ≡ cond (sameLevel (sideOf (o .kind)) (o .price) side price) (cond (sameId (idOf o) own) noTally (tallyWith since o t)) t ⌝ }
 {
-    if book::on_level(o, side, price) {
-        if book::has_id(o, own) {
+    if book_search::on_level(o, side, price) {
+        if book_search::has_id(o, own) {
             return no_tally();
         }
         return tally_with(since, o, t);

@@ -17,7 +17,6 @@ use Rattle.book.specs.declared.Resting.{Resting}
 use Rattle.book.specs.Line.{Entry}
 use Rattle.book.specs.Rows.{lineOf}
 use Rattle.book.specs.Memory.{Memory, Effect, ordersOf, lineIn, lineBy, ordersBy, changed}
-use Rattle.book.specs.Broken.{WellFormed}
 use Rattle.book_index.specs.declared.Bounds.{Bounds}
 use Rattle.book_index.specs.Index.{rowMarked, rowBounded, all, Indexed, Foreseen, noted}
 use Rattle.reconstructor_answers.specs.declared.Invalidation.{Invalidation}
@@ -35,6 +34,7 @@ use Rattle.reconstructor_checks.specs.StateChecks.{broken, Usable}
 use Rattle.reconstructor_plan.specs.Rules.{eventRefusal, eventDeed, effect}
 use Rattle.reconstructor.specs.Refusals.{admitRefusal, turnRefusal}
 use Rattle.reconstructor.specs.Applied.{refusedBook, refusedReply, invalidatedReply, acceptedReply, accepted, decided, atTurn, answered, bookGate, appliedTo, applied, Worked, Parts}
+use Rattle.book.proofs.Fits.{WellFormed}
 use Rattle.book.proofs.Memory.{line-by}
 use Rattle.book.proofs.Rows.{length-rows}
 use Rattle.book.proofs.Stored.{rows-stored, length-stored}

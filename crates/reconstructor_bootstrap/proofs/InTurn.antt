@@ -15,7 +15,7 @@ use Rattle.book.specs.declared.Resting.{Resting}
 use Rattle.book.specs.Line.{Entry, rests, hasLevel, levels, crossed}
 use Rattle.book.specs.Rows.{rowAt, rowsFrom, rowsOf, idOf, entryOf, lineOf}
 use Rattle.message.specs.Values.{amountLimit}
-use Rattle.book.specs.Broken.{outOfRange, rowBroken, someRowBroken, idTwice, rowsBroken, someOutOfRange}
+use Rattle.book.specs.Broken.{outOfRange, rowBroken, someRowBroken, idTwice, rowsBroken}
 use Rattle.reconstructor_state.specs.Checks.{check}
 use Rattle.reconstructor_bootstrap.specs.declared.SnapshotError.{SnapshotError}
 use Rattle.reconstructor_bootstrap.specs.declared.SnapshotError.the-variants.{DuplicateId, InvalidValue, Crossed, CapacityExceeded}
@@ -24,6 +24,7 @@ use Rattle.reconstructor_bootstrap.specs.declared.Validated.the-variants
 use Rattle.reconstructor_bootstrap.specs.Snapshot.{notPositive, noRoom, inTurn, lineRefusal}
 use Rattle.reconstructor_bootstrap.specs.Bootstrap.{validated}
 use Rattle.laws.proofs.Bools.{or-no, or-both}
+use Rattle.book.proofs.Fits.{someOutOfRange}
 use Rattle.book.proofs.Rows.{rows-next, rows-around, rows-done}
 use Rattle.book.proofs.Moves.{rests-front, twice-move, twice-join, levels-move, levels-drop}
 use Rattle.book.proofs.Kept.{line-append, sound-row, not-out}

@@ -20,7 +20,6 @@ use Rattle.book.specs.declared.Resting.{Resting}
 use Rattle.book.specs.Line.{Entry}
 use Rattle.book.specs.Rows.{rowWords, rowsOf, stored, snapshotRow}
 use Rattle.book.specs.Memory.{Memory, memory}
-use Rattle.book.specs.Broken.{someOutOfRange, SnapshotFits}
 use Rattle.reconstructor_state.specs.declared.BookReconstructor.{BookReconstructor}
 use Rattle.reconstructor_segments.specs.declared.Segment.{Segment}
 use Rattle.reconstructor_segments.specs.Segments.{noSegment, lastSegment, relast, started}
@@ -33,6 +32,7 @@ use Rattle.reconstructor_bootstrap.specs.Snapshot.{snapshotLine, notPosi
 use Rattle.reconstructor_bootstrap.specs.Bootstrap.{Parts, refusedBook, bootedBook, closed, accepted, unlessRefused, taken, putBack, bootstrappedTo, bootstrapped}
 use Rattle.reconstructor_bootstrap.specs.Places.{entryAt, entriesFrom}
 use Rattle.laws.proofs.Bools.{or-no, or-both, and-yes}
+use Rattle.book.proofs.Fits.{someOutOfRange, SnapshotFits}
 use Rattle.book.proofs.Kept.{snapshot-kept}
 use Rattle.book.proofs.Stored.{rows-stored, length-stored}
 use Rattle.message.proofs.Amounts.{in-range-most}

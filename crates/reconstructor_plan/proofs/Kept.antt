@@ -26,9 +26,9 @@ use Rattle.book.specs.declared.Resting.{Resting}
 use Rattle.book.specs.Line.{Entry, find, hasLevel, levels, wouldCross}
 use Rattle.book.specs.Rows.{rowAt, rowsOf, lineOf, entryOf, findRow, cutRows, observedKind, observedRow}
 use Rattle.book.specs.Memory.{Effect, keep, cutTo, ordersBy}
-use Rattle.book.specs.Broken.{WellFormed}
 use Rattle.reconstructor_state.specs.declared.VenueRules.{VenueRules}
 use Rattle.reconstructor_plan.specs.Rules.{entryFor, openRefusal, changeRefusal, sizeRefusal, sizeGiven, doneEffect, matchEffect, changeEffect, eventRefusal, effect}
+use Rattle.book.proofs.Fits.{WellFormed}
 use Rattle.book.proofs.Stored.{found-at, found-none}
 use Rattle.book.proofs.Kept.{InRange, row-sound, length-line, insert-kept, cut-kept}
 use Rattle.book.proofs.Memory.{observed-side}

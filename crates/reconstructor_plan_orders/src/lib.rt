@@ -46,7 +46,7 @@ fn no_room(rules: VenueRules, rows: &[u64], n: usize, side: L3Side, price: u64) 
     if n < rules.max_levels {
         return false;
     }
-    if book::has_level(rows, n, side, price) {
+    if book_search::has_level(rows, n, side, price) {
         return false;
     }
     book_keys::level_count(rows, n) >= rules.max_levels

@@ -12,9 +12,7 @@ ghost use Rattle.book.specs.Memory.{memory, ordersOf};
 ghost use Rattle.book.specs.Broken.{someRowBroken};
 ghost use Rattle.reconstructor_reads.specs.LevelReads.{profileWords, l2Words, queueContent, levelsContent, shows, shown};
 
-// Words of an entry: of `level_queue`, of `priority_profile`, of `l2` and `stale_l2`.
-pub const QUEUE_WORDS: usize = 5;
-
+// Words of an entry: of `priority_profile`, of `l2` and `stale_l2`.
 pub const PROFILE_WORDS: usize = 3;
 
 pub const L2_WORDS: usize = 2;
@@ -52,12 +50,12 @@ pub fn show_queue(
     requires { ⌜ Lent (now rows) n × («max_orders» ≤ length (now scratch)) ⌝ }
     ensures { λ r. ⌜ shows r (now (scratch .exit)) (now (out .exit)) ≡ shown «max_orders» (queueContent side price (ordersOf (memory (now (rows .entry))) n)) (now (scratch .entry)) (now (out .entry)) ⌝ }
 {
-    let count = book_queue::order_count(rows, n, side, price);
-    if out.len() < QUEUE_WORDS * count {
+    let count = book_orders::order_count(rows, n, side, price);
+    if out.len() < book_queue::QUEUE_WORDS * count {
         return Shown::OutputTooSmall;
     }
-    book_queue::write_orders(rows, n, side, price, EntryForm::Queue, out);
-    book_levels::clear(scratch, max_orders);
+    book_orders::write_orders(rows, n, side, price, EntryForm::Queue, out);
+    book_walk::clear(scratch, max_orders);
     Shown::Entries(count)
 }
 
@@ -80,6 +78,6 @@ pub fn show_levels(
     if out.len() < width * count {
         return Shown::OutputTooSmall;
     }
-    book_levels::write_levels(rows, n, side, width, scratch, max_orders, out);
+    book_walk::write_levels(rows, n, side, width, scratch, max_orders, out);
     Shown::Entries(count)
 }

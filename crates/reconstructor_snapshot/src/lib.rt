@@ -101,7 +101,7 @@ fn id_rests(rows: &[u64], i: usize, order: Resting) -> bool
         high: order.high,
         low: order.low,
     };
-    let Found::At(_) = book::find(rows, i, id) else {
+    let Found::At(_) = book_search::find(rows, i, id) else {
         return false;
     };
     true
@@ -112,7 +112,7 @@ fn levels_added(rows: &[u64], i: usize, order: Resting) -> usize
     requires { ⌜ Lent (now rows) i ⌝ }
     ensures { λ r. ⌜ (r ≡ cond (hasLevel (sideOf (order .kind)) (order .price) (lineOf (rowsOf (now (rows .entry)) i))) 0 1) × (r ≤ 1) ⌝ }
 {
-    if book::has_level(rows, i, book::side_of(order.kind), order.price) {
+    if book_search::has_level(rows, i, book::side_of(order.kind), order.price) {
         0
     } else {
         1
@@ -141,7 +141,10 @@ fn check_in_turn(rows: &[u64], n: usize, max_levels: usize) -> Validated
         levels += added;
         i += 1;
     }
-    if book::meet(book::best_bid(rows, n), book::best_ask(rows, n)) {
+    if book_prices::meet(
+        book_prices::best_bid(rows, n),
+        book_prices::best_ask(rows, n),
+    ) {
         return Validated::Refused(SnapshotError::Crossed);
     }
     Validated::Fits

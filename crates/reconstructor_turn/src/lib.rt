@@ -101,7 +101,7 @@ fn commit(book: BookReconstructor, rows: &mut [u64], plan: Plan, seq: u64) -> Re
     match plan {
         Plan::NoEffect(counter) => accepted(book, seq, n, counter, Applied::NoBookEffect),
         Plan::Insert(order) => {
-            book::insert(rows, n, order);
+            book_changes::insert(rows, n, order);
             accepted(book, seq, n + 1, Counter::Open, Applied::BookChanged)
         }
         Plan::Reduce {
@@ -110,11 +110,11 @@ fn commit(book: BookReconstructor, rows: &mut [u64], plan: Plan, seq: u64) -> Re
             mark,
             counter,
         } => {
-            book::reduce(rows, n, at, remaining, mark);
+            book_changes::reduce(rows, n, at, remaining, mark);
             accepted(book, seq, n, counter, Applied::BookChanged)
         }
         Plan::Remove { at, counter } => {
-            book::remove(rows, n, at);
+            book_changes::remove(rows, n, at);
             accepted(book, seq, n - 1, counter, Applied::BookChanged)
         }
     }

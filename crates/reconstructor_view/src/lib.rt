@@ -170,8 +170,8 @@ pub fn best_under(top: usize, book: BookReconstructor, rows: &[u64]) -> BestAnsw
         SequenceAnswer::Valid { .. } => {
             let n = book.rows;
             BestAnswer::Prices {
-                bid: book::best_bid(rows, n),
-                ask: book::best_ask(rows, n),
+                bid: book_prices::best_bid(rows, n),
+                ask: book_prices::best_ask(rows, n),
             }
         }
     }

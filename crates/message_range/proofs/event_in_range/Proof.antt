@@ -15,26 +15,27 @@ returns c = rw (c .enum-told .given .1)
 returns-2 : tie.Need-returns-2
 unfolding eventInRange
 returns-2 c =
-    let g = c .before .before .before .event .given in
+    let g = c .before .before .event .given in
     let p : toZ w64 (ofZ w64 (g .0 .1 .1 .0)) ≡ g .0 .1 .1 .0 = search needs in
     let q : toZ w64 (ofZ w64 (g .0 .1 .1 .1 .0)) ≡ g .0 .1 .1 .1 .0 = search needs in
-    rw (g .1, c .in-range2 .ensures, c .before .in-range .ensures, p, q)
+    rw (g .1, c .both-in-range .ensures, p, q)
 
 returns-3 : tie.Need-returns-3
 unfolding eventInRange
-returns-3 c = rw (c .before .before .before .event2 .given .1) (cc)
+returns-3 c =
+    rw (c .before .before .before .event2 .given .1, c .optional-in-range2 .ensures, c .before .optional-in-range .ensures)
 
 returns-4 : tie.Need-returns-4
 unfolding eventInRange
 returns-4 c =
-    let g = c .before .before .before .event3 .given in
+    let g = c .before .before .event3 .given in
     let p : toZ w64 (ofZ w64 (g .0 .1 .1 .1 .0)) ≡ g .0 .1 .1 .1 .0 = search needs in
     let q : toZ w64 (ofZ w64 (g .0 .1 .1 .1 .1 .0)) ≡ g .0 .1 .1 .1 .1 .0 = search needs in
-    rw (g .1, c .in-range4 .ensures, c .before .in-range3 .ensures, p, q)
+    rw (g .1, c .both-in-range2 .ensures, p, q)
 
 returns-5 : tie.Need-returns-5
 unfolding eventInRange
-returns-5 c = rw (c .before .before .before .before .before .before .before .event4 .given .1) (cc)
+returns-5 c = rw (c .before .before .event4 .given .1) (c .change-in-range .ensures)
 
 returns-6 : tie.Need-returns-6
 unfolding eventInRange
@@ -47,19 +48,12 @@ event-in-range-spec =
     (λ c. search needs)
     (λ c. search needs)
     (λ c κs. search needs)
-    (λ c κs. search needs)
     (λ c. search needs)
     (λ c κs. search needs)
     (λ c κs. search needs)
     (λ c. search needs)
     (λ c κs. search needs)
-    (λ c κs. search needs)
     (λ c. search needs)
-    (λ c κs. search needs)
-    (λ c κs. search needs)
-    (λ c κs. search needs)
-    (λ c κs. search needs)
-    (λ c κs. search needs)
     (λ c κs. search needs)
     (λ c. search needs)
     returns
