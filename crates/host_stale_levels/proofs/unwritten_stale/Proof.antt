@@ -5,8 +5,8 @@ use Rattle.reconstructor_reads.specs.LevelReads.{staleRead}
 use Rattle.reconstructor_checks.proofs.StateChecks.{said, said-none}
 use Rattle.host_answers.proofs.Refusals.{state-lastly}
 use borrow.Author.Needs.{needs}
-use Rattle.host_levels.proofs.unwritten_stale.Statement.{statement}
-use Rattle.host_levels.proofs.unwritten_stale.Tie as tie
+use Rattle.host_stale_levels.proofs.unwritten_stale.Statement.{statement}
+use Rattle.host_stale_levels.proofs.unwritten_stale.Tie as tie
 
 returns : tie.Need-returns
 unfolding staleRead
