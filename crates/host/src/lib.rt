@@ -11,7 +11,8 @@ ghost use Rattle.host_pieces.specs.Pieces.{messageNumber, messageOut, snapshotN
 ghost use Rattle.host_answers.specs.Answers.{answered};
 ghost use Rattle.host_new.specs.New.{newCall};
 ghost use Rattle.host_calls.specs.Calls.{called, stepCalled, applyCall, bootstrapCall, handshakeCall, stepCall};
-ghost use Rattle.host_replay.specs.Replay.{replayCalled, replayCall};
+ghost use Rattle.host_replay_run.specs.Run.{replayCalled};
+ghost use Rattle.host_replay.specs.Replay.{replayCall};
 ghost use Rattle.host_views.specs.Views.{lastCall, bestCall, auditCall, invalidationCall, segmentCall};
 ghost use Rattle.host_level_stops.specs.Stops.{levelCalled};
 ghost use Rattle.host_levels.specs.Levels.{profileCall, l2Call};

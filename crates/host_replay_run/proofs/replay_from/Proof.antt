@@ -5,10 +5,10 @@ use mathlib.Core.Path.{sym, _∙_}
 use native.Mathlib.Omega.{arith}
 use lib.ListN.{length-drop}
 use borrow.Author.Needs.{needs}
-use Rattle.host_replay.specs.Replay.{countOf}
-use Rattle.host_replay.proofs.Runs.{Looped, loop-start, loop-next, message-at, left-last}
-use Rattle.host_replay.proofs.replay_from.Statement.{statement}
-use Rattle.host_replay.proofs.replay_from.Tie as tie
+use Rattle.host_replay_run.specs.Run.{countOf}
+use Rattle.host_replay_run.proofs.Runs.{Looped, loop-start, loop-next, message-at, left-last}
+use Rattle.host_replay_run.proofs.replay_from.Statement.{statement}
+use Rattle.host_replay_run.proofs.replay_from.Tie as tie
 
 abbrev Inv-loop : tie.InvT-loop
 Inv-loop state₀ rows₀ segments₀ messages answers₀ places₀ count bounds₀ i₀ state rows segments answers places bounds i =

@@ -6,9 +6,9 @@ use Rattle.book.specs.Rows.{mostRows}
 use Rattle.book.specs.Memory.{memory}
 use Rattle.reconstructor_checks.proofs.StateChecks.{rows-ready}
 use Rattle.reconstructor.proofs.Laws.{trusted-ready}
-use Rattle.host_replay.proofs.Runs.{loaded, foreseen, applies, runs-on}
-use Rattle.host_replay.proofs.apply_message.Statement.{statement}
-use Rattle.host_replay.proofs.apply_message.Tie as tie
+use Rattle.host_replay_message.proofs.Message.{loaded, foreseen, applies, runs-on}
+use Rattle.host_replay_message.proofs.apply_message.Statement.{statement}
+use Rattle.host_replay_message.proofs.apply_message.Tie as tie
 
 foresee-requires : tie.Need-foresee-requires
 foresee-requires c κs =

@@ -1,8 +1,8 @@
 use mathlib.Core.Path.{sym, _∙_}
-use Rattle.host_replay.proofs.Runs.{no-apply}
+use Rattle.host_replay_message.proofs.Message.{no-apply}
 use borrow.Author.Needs.{needs}
-use Rattle.host_replay.proofs.replay_message.Statement.{statement}
-use Rattle.host_replay.proofs.replay_message.Tie as tie
+use Rattle.host_replay_message.proofs.replay_message.Statement.{statement}
+use Rattle.host_replay_message.proofs.replay_message.Tie as tie
 
 returns : tie.Need-returns
 returns c =

@@ -6,9 +6,9 @@ use Rattle.book.specs.Memory.{memory}
 use Rattle.reconstructor_state.specs.State.{ceiling}
 use Rattle.host_records.specs.Records.{recordsIn}
 use Rattle.reconstructor_checks.proofs.StateChecks.{rows-ready, trusted}
-use Rattle.host_replay.proofs.Runs.{runs-start}
-use Rattle.host_replay.proofs.replay_in.Statement.{statement}
-use Rattle.host_replay.proofs.replay_in.Tie as tie
+use Rattle.host_replay_run.proofs.Runs.{runs-start}
+use Rattle.host_replay_run.proofs.replay_in.Statement.{statement}
+use Rattle.host_replay_run.proofs.replay_in.Tie as tie
 
 mark-rows-requires : tie.Need-mark-rows-requires
 mark-rows-requires c κs =

@@ -1,6 +1,6 @@
 use borrow.Author.Needs.{needs}
-use Rattle.host_replay.proofs.replay_many.Statement.{statement}
-use Rattle.host_replay.proofs.replay_many.Tie as tie
+use Rattle.host_replay_run.proofs.replay_many.Statement.{statement}
+use Rattle.host_replay_run.proofs.replay_many.Tie as tie
 
 replay-in-requires : tie.Need-replay-in-requires
 replay-in-requires c κs = (c .before .before .before .before .before .before .before .before .before .before .pre, search needs)
