@@ -11,9 +11,13 @@ ghost use Rattle.host_pieces.specs.Pieces.{messageNumber, messageOut, snapshotN
 ghost use Rattle.host_answers.specs.Answers.{answered};
 ghost use Rattle.host_new.specs.New.{newCall};
 ghost use Rattle.host_calls.specs.Calls.{called, stepCalled, applyCall, bootstrapCall, handshakeCall, stepCall};
-ghost use Rattle.host_replay.specs.Replay.{replayCalled, replayCall};
+ghost use Rattle.host_replay_run.specs.Run.{replayCalled};
+ghost use Rattle.host_replay.specs.Replay.{replayCall};
 ghost use Rattle.host_views.specs.Views.{lastCall, bestCall, auditCall, invalidationCall, segmentCall};
-ghost use Rattle.host_levels.specs.Levels.{levelCalled, queueCall, profileCall, l2Call, staleCall};
+ghost use Rattle.host_level_stops.specs.Stops.{levelCalled};
+ghost use Rattle.host_levels.specs.Levels.{profileCall, l2Call};
+ghost use Rattle.host_level_queue.specs.LevelQueue.{queueCall};
+ghost use Rattle.host_stale_levels.specs.Stale.{staleCall};
 ghost use Rattle.host_estimates.specs.Estimates.{estimateCalled, estimateCall, ownCall, aheadCall};
 
 // Reads a message piece into 21 words: kind, product (two), sequence, time, then the event's fields.
@@ -208,7 +212,7 @@ pub extern "C" fn pinuglaw_level_queue(
 ) -> u64
     ensures { λ r. ⌜ levelCalled r (now (scratch .exit)) (now (out .exit)) (now (count .exit)) ≡ queueCall (now (state .entry)) (now (rows .entry)) (now (scratch .entry)) side price (now (out .entry)) (now (count .entry)) ⌝ }
 {
-    host_levels::level_queue(state, rows, scratch, side, price, out, count)
+    host_level_queue::level_queue(state, rows, scratch, side, price, out, count)
 }
 
 // The levels of a side, three words each, and their number.
@@ -253,7 +257,7 @@ pub extern "C" fn pinuglaw_stale_l2(
 ) -> u64
     ensures { λ r. ⌜ levelCalled r (now (scratch .exit)) (now (out .exit)) (now (count .exit)) ≡ staleCall (now (state .entry)) (now (rows .entry)) (now (scratch .entry)) side (now (out .entry)) (now (count .entry)) ⌝ }
 {
-    host_levels::stale_l2(state, rows, scratch, side, out, count)
+    host_stale_levels::stale_l2(state, rows, scratch, side, out, count)
 }
 
 // An estimate for an order created now at a side and price, into eight words, and the orders ahead of it, three words each.

@@ -8,7 +8,8 @@ use Rattle.book.specs.Memory.{memory, extentOf}
 use Rattle.host_boundary.specs.Boundary.{boundary}
 use Rattle.host_boundary.proofs.Passed.{passed, turned-away}
 use Rattle.host_calls.proofs.Blocks.{less}
-use Rattle.host_replay.specs.Replay.{replayCalled, replayCall}
+use Rattle.host_replay_run.specs.Run.{replayCalled}
+use Rattle.host_replay.specs.Replay.{replayCall}
 use Rattle.host_replay.proofs.Runs.{ready, run-short, run-refused, run-passed}
 use borrow.Author.Needs.{needs}
 use Rattle.host_replay.proofs.replay.Statement.{statement}
