@@ -2,11 +2,11 @@
 use mathlib.Core.Bool.{false}
 use Rattle.book.specs.Memory.{memory}
 use Rattle.reconstructor_checks.proofs.StateChecks.{rows-ready}
 use Rattle.reconstructor_view.specs.ValueReads.{bestOf}
 use Rattle.reconstructor_view.proofs.Readable.{refused-for, found-valid}
 use borrow.Author.Needs.{needs}
-use Rattle.reconstructor_view.proofs.best_under.Statement.{statement}
-use Rattle.reconstructor_view.proofs.best_under.Tie as tie
+use Rattle.reconstructor_view_valid.proofs.best_under.Statement.{statement}
+use Rattle.reconstructor_view_valid.proofs.best_under.Tie as tie
 
 best-bid-requires : tie.Need-best-bid-requires
 best-bid-requires c κs =

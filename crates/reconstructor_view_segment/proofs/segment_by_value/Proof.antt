@@ -1,7 +1,7 @@
 use borrow.Author.Tests.{le-leb, lt-leb}
 use Rattle.reconstructor_view.specs.ValueReads.{segmentReadTo}
-use Rattle.reconstructor_view.proofs.segment_by_value.Statement.{statement}
-use Rattle.reconstructor_view.proofs.segment_by_value.Tie as tie
+use Rattle.reconstructor_view_segment.proofs.segment_by_value.Statement.{statement}
+use Rattle.reconstructor_view_segment.proofs.segment_by_value.Tie as tie
 
 returns : tie.Need-returns
 unfolding segmentReadTo

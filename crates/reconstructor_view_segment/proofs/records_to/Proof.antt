@@ -1,7 +1,7 @@
 use borrow.Author.Tests.{lt-ltb, le-ltb}
 use borrow.Author.Needs.{needs}
-use Rattle.reconstructor_view.proofs.records_to.Statement.{statement}
-use Rattle.reconstructor_view.proofs.records_to.Tie as tie
+use Rattle.reconstructor_view_segment.proofs.records_to.Statement.{statement}
+use Rattle.reconstructor_view_segment.proofs.records_to.Tie as tie
 
 returns : tie.Need-returns
 returns c = rw (lt-ltb _ _ (c .if1 .taken))

@@ -1,8 +1,8 @@
 use mathlib.Core.Path.{ap}
 use borrow.Author.Needs.{needs}
 use Rattle.reconstructor_view.specs.Numbers.{auditedTold}
-use Rattle.reconstructor_view.proofs.audit.Statement.{statement}
-use Rattle.reconstructor_view.proofs.audit.Tie as tie
+use Rattle.reconstructor_view_valid.proofs.audit.Statement.{statement}
+use Rattle.reconstructor_view_valid.proofs.audit.Tie as tie
 
 returns : tie.Need-returns
 returns c = (c .audit-under .ensures, ap auditedTold (c .audit-under .ensures))

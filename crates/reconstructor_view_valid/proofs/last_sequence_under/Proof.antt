@@ -1,6 +1,6 @@
 use borrow.Author.Needs.{needs}
-use Rattle.reconstructor_view.proofs.last_sequence_under.Statement.{statement}
-use Rattle.reconstructor_view.proofs.last_sequence_under.Tie as tie
+use Rattle.reconstructor_view_valid.proofs.last_sequence_under.Statement.{statement}
+use Rattle.reconstructor_view_valid.proofs.last_sequence_under.Tie as tie
 
 returns : tie.Need-returns
 returns c = c .valid-book .ensures

@@ -1,10 +1,10 @@
 use mathlib.Core.Bool.{false}
 use Rattle.book.specs.Memory.{memory}
 use Rattle.reconstructor_view.specs.ValueReads.{auditedOf}
 use Rattle.reconstructor_view.proofs.Readable.{refused-for, found-valid, audit-ok}
 use borrow.Author.Needs.{needs}
-use Rattle.reconstructor_view.proofs.audit_under.Statement.{statement}
-use Rattle.reconstructor_view.proofs.audit_under.Tie as tie
+use Rattle.reconstructor_view_valid.proofs.audit_under.Statement.{statement}
+use Rattle.reconstructor_view_valid.proofs.audit_under.Tie as tie
 
 returns : tie.Need-returns
 unfolding auditedOf
