@@ -1,7 +1,7 @@
 use borrow.Author.Needs.{needs}
 use Rattle.reconstructor.specs.Applied.{acceptedReply}
-use Rattle.reconstructor_turn.proofs.accepted.Statement.{statement}
-use Rattle.reconstructor_turn.proofs.accepted.Tie as tie
+use Rattle.reconstructor_turn_replies.proofs.accepted.Statement.{statement}
+use Rattle.reconstructor_turn_replies.proofs.accepted.Tie as tie
 
 returns : tie.Need-returns
 unfolding acceptedReply

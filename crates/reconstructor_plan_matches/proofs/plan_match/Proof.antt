@@ -11,8 +11,8 @@ use Rattle.reconstructor_plan.specs.Rules.{eventRefusal, makerRefusal, eventDee
 use Rattle.message.proofs.Signed.{back, sized}
 use Rattle.reconstructor_state.proofs.Checks.{fails, goes-on, told-false, links}
 use Rattle.reconstructor_plan.proofs.Found.{cut-outcome, cut-fits, at-row, row-entry, it-rests, no-row}
-use Rattle.reconstructor_plan_changes.proofs.plan_match.Statement.{statement}
-use Rattle.reconstructor_plan_changes.proofs.plan_match.Tie as tie
+use Rattle.reconstructor_plan_matches.proofs.plan_match.Statement.{statement}
+use Rattle.reconstructor_plan_matches.proofs.plan_match.Tie as tie
 
 returns : tie.Need-returns
 unfolding eventRefusal makerRefusal eventDeed effect counterOf

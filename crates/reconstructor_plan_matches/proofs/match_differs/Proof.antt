@@ -1,7 +1,7 @@
 use borrow.Author.Needs.{needs}
 use Rattle.message.proofs.Signed.{back}
-use Rattle.reconstructor_plan_changes.proofs.match_differs.Statement.{statement}
-use Rattle.reconstructor_plan_changes.proofs.match_differs.Tie as tie
+use Rattle.reconstructor_plan_matches.proofs.match_differs.Statement.{statement}
+use Rattle.reconstructor_plan_matches.proofs.match_differs.Tie as tie
 
 returns : tie.Need-returns
 returns c =

@@ -1,7 +1,7 @@
 use borrow.Author.Needs.{needs}
 use Rattle.reconstructor.specs.Applied.{invalidatedReply}
-use Rattle.reconstructor_turn.proofs.invalidated.Statement.{statement}
-use Rattle.reconstructor_turn.proofs.invalidated.Tie as tie
+use Rattle.reconstructor_turn_replies.proofs.invalidated.Statement.{statement}
+use Rattle.reconstructor_turn_replies.proofs.invalidated.Tie as tie
 
 returns : tie.Need-returns
 unfolding invalidatedReply

@@ -5,8 +5,8 @@ use borrow.Author.Tests.{ne-eqb, lt-leb, le-ltb}
 use borrow.Author.Needs.{needs}
 use Rattle.reconstructor.specs.Refusals.{turnRefusal}
 use Rattle.reconstructor_state.proofs.Checks.{goes-on, first-on, first-fails, links}
-use Rattle.reconstructor_turn.proofs.take_turn.Statement.{statement}
-use Rattle.reconstructor_turn.proofs.take_turn.Tie as tie
+use Rattle.reconstructor_turn_plan.proofs.take_turn.Statement.{statement}
+use Rattle.reconstructor_turn_plan.proofs.take_turn.Tie as tie
 
 returns : tie.Need-returns
 unfolding turnRefusal
