@@ -1,24 +1,25 @@
 -- The tests of the sequence are those of `turnRefusal`, in its order, and 22 passed lets `last + 1` fit a word. Past them `plan_event` answers the event's
 -- refusal, which ends the chain, or a plan for its deed.
 use mathlib.Core.Path.{refl}
-use borrow.Author.Tests.{ne-eqb, lt-leb, le-ltb}
+use borrow.Author.Tests.{eq-eqb, ne-eqb, le-leb, lt-leb, lt-ltb, le-ltb}
 use borrow.Author.Needs.{needs}
 use Rattle.reconstructor.specs.Refusals.{turnRefusal}
-use Rattle.reconstructor_state.proofs.Checks.{goes-on, first-on, first-fails, links}
+use Rattle.reconstructor_state.proofs.Checks.{fails, goes-on, first-on, first-fails}
 use Rattle.reconstructor_turn_plan.proofs.take_turn.Statement.{statement}
 use Rattle.reconstructor_turn_plan.proofs.take_turn.Tie as tie
 
 returns : tie.Need-returns
 unfolding turnRefusal
-returns c = search links depth 20
+returns c = fails _ _ _ (eq-eqb _ _ (c .if1 .taken))
 
 returns-2 : tie.Need-returns-2
 unfolding turnRefusal
-returns-2 c = search links depth 20
+returns-2 c = goes-on _ _ _ _ (ne-eqb _ _ (c .before .if1 .left)) (fails _ _ _ (le-leb _ _ (c .if2 .taken)))
 
 returns-3 : tie.Need-returns-3
 unfolding turnRefusal
-returns-3 c = search links depth 20
+returns-3 c =
+    goes-on _ _ _ _ (ne-eqb _ _ (c .before .before .if1 .left)) (goes-on _ _ _ _ (lt-leb _ _ (c .before .if2 .left)) (fails _ _ _ (lt-ltb _ _ (c .if3 .taken))))
 
 returns-4 : tie.Need-returns-4
 unfolding turnRefusal
