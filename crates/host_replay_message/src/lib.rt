@@ -41,12 +41,12 @@ fn apply_message(
     let message = load_message(message);
     let event = message.event;
     let n = book.rows;
-    let next = book_index::foresee(rows, n, bounds, event);
+    let next = book_index_upkeep::foresee(rows, n, bounds, event);
     let count = book.segments;
     let last = last_record(segments, count);
     let work = reconstructor_apply::apply_indexed(book, rows, last, places, next, message);
     rewrite_record(segments, count, work.segment);
-    book_index::note(places, n, event);
+    book_index_upkeep::note(places, n, event);
     let answer = work.answer;
     store_book(state, work.book, sets_status(answer));
     Replayed {

@@ -55,8 +55,8 @@ fn replay_in(
     ensures { λ _. ⌜ replayCalled 0 (now (state .exit)) (now (rows .exit)) (now (segments .exit)) (now (answers .exit)) ≡ afterRun (now (answers .entry)) (run (countOf (now (messages .entry))) (now (state .entry)) (now (rows .entry)) (now (segments .entry)) (now (messages .entry))) ⌝ }
 {
     let n = load_book(state).rows;
-    book_index::mark_rows(rows, n, places);
-    let bounds = book_index::bounds_of(rows, n);
+    book_index_upkeep::mark_rows(rows, n, places);
+    let bounds = book_index_upkeep::bounds_of(rows, n);
     replay_from(state, rows, segments, messages, answers, places, bounds)
 }
 

@@ -17,7 +17,7 @@ pub fn last_sequence(state: &[u64], rows: &[u64], out: &mut [u64]) -> u64
     if stop != 0 {
         return stop;
     }
-    let answer = reconstructor_view::last_sequence(load_book(state), rows);
+    let answer = reconstructor_view_valid::last_sequence(load_book(state), rows);
     store_last(out, answer)
 }
 
@@ -28,7 +28,7 @@ pub fn best(state: &[u64], rows: &[u64], out: &mut [u64]) -> u64
     if stop != 0 {
         return stop;
     }
-    let answer = reconstructor_view::best(load_book(state), rows);
+    let answer = reconstructor_view_valid::best(load_book(state), rows);
     store_best(out, answer)
 }
 
@@ -39,7 +39,7 @@ pub fn audit(state: &[u64], rows: &[u64]) -> u64
     if stop != 0 {
         return stop;
     }
-    let answer = reconstructor_view::audit(load_book(state), rows);
+    let answer = reconstructor_view_valid::audit(load_book(state), rows);
     answer.number()
 }
 
@@ -63,6 +63,6 @@ pub fn segment(state: &[u64], segments: &[u64], place: usize, out: &mut [u64]) -
     let book = load_book(state);
     let lent = segments.len() / host_records::RECORD_WORDS;
     let record = host_records::record_at(segments, place);
-    let answer = reconstructor_view::segment_by_value(book, lent, place, record);
+    let answer = reconstructor_view_segment::segment_by_value(book, lent, place, record);
     store_segment(out, answer)
 }

@@ -7,7 +7,7 @@ use reconstructor_counts::Counter;
 use reconstructor_plan::Plan;
 use reconstructor_plan::Planned;
 use reconstructor_plan_changes::plan_change;
-use reconstructor_plan_changes::plan_match;
+use reconstructor_plan_matches::plan_match;
 use reconstructor_plan_orders::plan_done;
 use reconstructor_plan_orders::plan_open;
 use reconstructor_state::VenueRules;
