@@ -52,7 +52,7 @@ fn add(rows: &mut [u64], n: usize, o: Resting) -> usize {
     if rows.len() < book::ROW_WORDS * n + book::ROW_WORDS {
         return n;
     }
-    book::insert(rows, n, o);
+    book_changes::insert(rows, n, o);
     n + 1
 }
 
@@ -64,7 +64,7 @@ fn reduce(rows: &mut [u64], n: usize, i: usize, remaining: u64, mark: Decrease) 
         return;
     }
     if i < n {
-        book::reduce(rows, n, i, remaining, mark);
+        book_changes::reduce(rows, n, i, remaining, mark);
     }
 }
 
@@ -79,7 +79,7 @@ fn remove(rows: &mut [u64], n: usize, i: usize) -> usize {
     if n <= i {
         return n;
     }
-    book::remove(rows, n, i);
+    book_changes::remove(rows, n, i);
     n - 1
 }
 
@@ -90,7 +90,7 @@ fn find(rows: &[u64], n: usize, id: u64) {
     }
     text(b"find");
     let id = OrderId { high: 1, low: id };
-    match book::find(rows, n, id) {
+    match book_search::find(rows, n, id) {
         Found::At(i) => number(i as u64),
         Found::Nothing => text(b" none"),
     }
@@ -110,8 +110,8 @@ fn tops(rows: &[u64], n: usize) {
         return;
     }
     text(b"best");
-    price(book::best_bid(rows, n));
-    price(book::best_ask(rows, n));
+    price(book_prices::best_bid(rows, n));
+    price(book_prices::best_ask(rows, n));
     text(b" levels");
     number(book_keys::level_count(rows, n) as u64);
     number(book_keys::side_level_count(rows, n, L3Side::Buy) as u64);
@@ -133,9 +133,9 @@ fn meets(rows: &[u64], n: usize, side: L3Side, price: u64) {
         return;
     }
     text(b"level");
-    yes(book::has_level(rows, n, side, price));
+    yes(book_search::has_level(rows, n, side, price));
     text(b" crosses");
-    yes(book::would_cross(rows, n, side, price));
+    yes(book_prices::would_cross(rows, n, side, price));
     text(b"\n");
 }
 
@@ -165,7 +165,7 @@ fn walk(rows: &[u64], n: usize, side: L3Side, marks: &mut [u64], out: &mut [u64]
     if out.len() / 3 < count {
         return 0;
     }
-    book_levels::write_levels(rows, n, side, 3, marks, size, out)
+    book_walk::write_levels(rows, n, side, 3, marks, size, out)
 }
 
 fn finding(answer: AuditAnswer) {
@@ -183,7 +183,7 @@ fn judge(rows: &[u64], n: usize, max_levels: usize) {
     text(b"broken");
     yes(book_valid::rows_broken(rows, n, max_levels));
     text(b" audit");
-    finding(book_valid::audit(rows, n));
+    finding(book_audit::audit(rows, n));
     text(b"\n");
 }
 

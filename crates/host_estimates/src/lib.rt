@@ -54,7 +54,7 @@ pub fn queue_estimate_own(
         high: id_high,
         low: id_low,
     };
-    let answer = queue_estimates::queue_estimate_own(load_book(state), rows, id);
+    let answer = queue_estimates_own::queue_estimate_own(load_book(state), rows, id);
     store_estimate(estimate, answer)
 }
 

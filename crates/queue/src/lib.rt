@@ -1,5 +1,5 @@
 // Volume ahead of an own order, under declared hypotheses: queue estimation, kept apart from the visible book. It validates no fill model.
-// Here are its values and definitions; crates `queue_estimates` and `queue_ahead` have the calls.
+// Here are its values and definitions; crates `queue_estimates`, `queue_estimates_own` and `queue_ahead` have the calls.
 use book::Resting;
 use message::L3Side;
 use message::OrderId;

@@ -1,12 +1,10 @@
 // Sums over the orders ahead of an own order: what an ahead-list's entries and the rows before our own add up to.
-use book::Found;
 use book::Resting;
 use book_queue::AHEAD_ENTRY_WORDS;
 use message::L3Side;
 use message::OrderId;
 use queue::Rests;
 use queue::Tally;
-use reconstructor_state::SizeDecrease;
 ghost use mathlib.Core.Path.{_≡_};
 ghost use mathlib.Core.Bool.{false, cond};
 ghost use Prim.Native.Nat.{_*_, _≤_};
@@ -20,53 +18,8 @@ ghost use Rattle.book.specs.Memory.{memory, ordersOf};
 ghost use Rattle.book.specs.Broken.{someRowBroken};
 ghost use Rattle.book_queue.specs.Queue.{rowsAt};
 ghost use Rattle.queue.specs.Ahead.{rowWith, enteredAt, aheadEntryWords, entriesFrom, stillAhead, before, decreasedAfter, tallyOf};
-ghost use Rattle.queue.specs.Tallies.{noTally, tallyWith, tallyJoined, Small, RestsFor};
-ghost use Rattle.queue.specs.Estimates.{losesPlace, placeUnknown, listBound};
-
-// Whether a decrease loses an order its place.
-pub fn loses_place(rule: SizeDecrease) -> bool
-    ensures { λ r. ⌜ r ≡ losesPlace rule ⌝ }
-{
-    match rule {
-        SizeDecrease::KeepsPriority => false,
-        SizeDecrease::PriorityUnknown => true,
-    }
-}
-
-// Whether our own order's place is unknown.
-pub fn place_unknown(rule: SizeDecrease, o: Resting) -> bool
-    ensures { λ r. ⌜ r ≡ placeUnknown rule o ⌝ }
-{
-    (o.kind < 2) | ((o.decreased != 0) & loses_place(rule))
-}
-
-// The row of an id.
-pub fn resting(rows: &[u64], n: usize, id: OrderId) -> Rests
-    requires { ⌜ Lent (now rows) n ⌝ }
-    ensures { λ r. ⌜ RestsFor (rowWith id (ordersOf (memory (now (rows .entry))) n)) r ⌝ }
-{
-    match book_search::find(rows, n, id) {
-        Found::At(i) => Rests::Row(book::get_row(rows, i)),
-        Found::Nothing => Rests::Gone,
-    }
-}
-
-// The row of an id, if it entered there: an id that is used again names another order.
-pub fn resting_since(rows: &[u64], n: usize, id: OrderId, entered_at: u64) -> Rests
-    requires { ⌜ Lent (now rows) n ⌝ }
-    ensures { λ r. ⌜ RestsFor (enteredAt «entered_at» (rowWith id (ordersOf (memory (now (rows .entry))) n))) r ⌝ }
-{
-    match resting(rows, n, id) {
-        Rests::Row(o) => {
-            if o.entered_at == entered_at {
-                Rests::Row(o)
-            } else {
-                Rests::Gone
-            }
-        }
-        Rests::Gone => Rests::Gone,
-    }
-}
+ghost use Rattle.queue.specs.Tallies.{noTally, tallyWith, tallyJoined, Small};
+ghost use Rattle.queue.specs.Estimates.{listBound};
 
 // What an order adds to the volume from snapshots.
 fn snapshot_size(o: Resting) -> u64
@@ -123,7 +76,7 @@ fn tally_entry(rows: &[u64], n: usize, id: OrderId, entered_at: u64, since: u64,
     requires { ⌜ Small t ⌝ }
     ensures { λ r. ⌜ r ≡ tallyJoined since (enteredAt «entered_at» (rowWith id (ordersOf (memory (now (rows .entry))) n))) t ⌝ }
 {
-    match resting_since(rows, n, id, entered_at) {
+    match queue_place::resting_since(rows, n, id, entered_at) {
         Rests::Row(o) => tally_with(since, o, t),
         Rests::Gone => t,
     }

@@ -1,6 +1,6 @@
 use borrow.Author.Needs.{needs}
-use Rattle.queue_tally.proofs.place_unknown.Statement.{statement}
-use Rattle.queue_tally.proofs.place_unknown.Tie as tie
+use Rattle.queue_place.proofs.place_unknown.Statement.{statement}
+use Rattle.queue_place.proofs.place_unknown.Tie as tie
 
 returns : tie.Need-returns
 returns c = rw (c .loses-place .ensures)

@@ -1,7 +1,7 @@
 use borrow.Author.Tests.{eq-eqb, ne-eqb}
 use borrow.Author.Needs.{needs}
-use Rattle.queue_tally.proofs.resting_since.Statement.{statement}
-use Rattle.queue_tally.proofs.resting_since.Tie as tie
+use Rattle.queue_place.proofs.resting_since.Statement.{statement}
+use Rattle.queue_place.proofs.resting_since.Tie as tie
 
 returns : tie.Need-returns
 returns c =

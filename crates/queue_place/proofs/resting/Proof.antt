@@ -3,8 +3,8 @@ use native.Mathlib.Omega.{arith}
 use Rattle.book.proofs.Stored.{found-at}
 use Rattle.queue.proofs.Ahead.{row-found, row-missed}
 use borrow.Author.Needs.{needs}
-use Rattle.queue_tally.proofs.resting.Statement.{statement}
-use Rattle.queue_tally.proofs.resting.Tie as tie
+use Rattle.queue_place.proofs.resting.Statement.{statement}
+use Rattle.queue_place.proofs.resting.Tie as tie
 
 get-row-requires : tie.Need-get-row-requires
 get-row-requires c κs =

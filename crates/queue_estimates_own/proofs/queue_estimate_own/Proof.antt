@@ -1,8 +1,8 @@
 use mathlib.Core.Path.{ap}
 use borrow.Author.Needs.{needs}
 use Rattle.queue.specs.Numbers.{estimateTold}
-use Rattle.queue_estimates.proofs.queue_estimate_own.Statement.{statement}
-use Rattle.queue_estimates.proofs.queue_estimate_own.Tie as tie
+use Rattle.queue_estimates_own.proofs.queue_estimate_own.Statement.{statement}
+use Rattle.queue_estimates_own.proofs.queue_estimate_own.Tie as tie
 
 returns : tie.Need-returns
 returns c =

@@ -6,8 +6,8 @@ use Rattle.reconstructor_view.proofs.Readable.{refused-for, found-valid}
 use Rattle.queue.specs.Estimates.{ownViewed}
 use Rattle.queue.proofs.Ahead.{with-sound, price-most}
 use borrow.Author.Needs.{needs}
-use Rattle.queue_estimates.proofs.queue_estimate_own_under.Statement.{statement}
-use Rattle.queue_estimates.proofs.queue_estimate_own_under.Tie as tie
+use Rattle.queue_estimates_own.proofs.queue_estimate_own_under.Statement.{statement}
+use Rattle.queue_estimates_own.proofs.queue_estimate_own_under.Tie as tie
 
 resting-requires : tie.Need-resting-requires
 resting-requires c κs =

@@ -3,8 +3,8 @@ use Prim.Native.Nat.{_<_, _^_}
 use mir.Syntax.{w64}
 use mir.Facts.{toZ-pos}
 use borrow.Author.Needs.{needs}
-use Rattle.queue_estimates.proofs.own_estimate.Statement.{statement}
-use Rattle.queue_estimates.proofs.own_estimate.Tie as tie
+use Rattle.queue_estimates_own.proofs.own_estimate.Statement.{statement}
+use Rattle.queue_estimates_own.proofs.own_estimate.Tie as tie
 
 returns : tie.Need-returns
 returns c =
