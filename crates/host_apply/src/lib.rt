@@ -1,12 +1,12 @@
 // A message applied to a book whose state, message and segment list are words: the call that `host` exports. It does on words what `apply` does on a slice of
 // records, by the same work.
 use host_boundary::boundary;
-use host_boundary::list_short;
-use host_boundary::no_message;
+use host_message_tests::no_message;
 use host_messages::load_message;
 use host_records::RECORD_WORDS;
 use host_records::last_record;
 use host_records::rewrite_record;
+use host_word_tests::list_short;
 use host_words::load_book;
 use host_words::sets_status;
 use host_words::store_book;

@@ -1,11 +1,11 @@
 // A snapshot piece taken for a book whose state and segment list are words: the call that `host` exports. It does on words what `bootstrap` does on a slice of
 // records, by the same work.
 use host_boundary::boundary;
-use host_boundary::list_short;
 use host_records::RECORD_WORDS;
 use host_records::last_record;
 use host_records::put_record;
 use host_records::rewrite_record;
+use host_word_tests::list_short;
 use host_words::load_book;
 use host_words::store_book;
 ghost use mathlib.Core.Path.{_≡_};

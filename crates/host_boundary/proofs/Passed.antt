@@ -13,7 +13,8 @@ use Rattle.reconstructor_state.specs.declared.VenueRules.{VenueRules}
 use Rattle.reconstructor_state.specs.State.{ceiling}
 use Rattle.reconstructor_checks.specs.StateChecks.{overCeiling, memoryShort}
 use Rattle.host_words.specs.Block.{stateWords, rulesOf}
-use Rattle.host_boundary.specs.Boundary.{noBook, noBookNumber, shortInput, boundary, ownBoundary, unlessTurned}
+use Rattle.host_word_tests.specs.WordTests.{noBook}
+use Rattle.host_boundary.specs.Boundary.{noBookNumber, shortInput, boundary, ownBoundary, unlessTurned}
 
 -- ---- past the boundary
 

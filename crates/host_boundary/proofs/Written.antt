@@ -18,7 +18,7 @@ use Rattle.reconstructor_state.specs.declared.Status.the-variants.{Empty, Valid
 use Rattle.reconstructor_state.specs.declared.BookReconstructor.{BookReconstructor}
 use Rattle.host_words.specs.Block.{stateWords, statusWords, restored}
 use Rattle.host_words.proofs.RoundTrip.{part}
-use Rattle.host_boundary.specs.Boundary.{noBit, noReason, noBook}
+use Rattle.host_word_tests.specs.WordTests.{noBit, noReason, noBook}
 
 reason-written : (k : InvalidationKind) → noReason (kindNumber k) (kindDetail k) ≡ false
 reason-written (Gap expected got) = refl

@@ -5,58 +5,21 @@
 --   3    a state block whose size_decrease, status or reason no book has: the words lent are no book. After 1 and 2, where the call is lent rows
 -- Then nothing is touched. The layouts are in Block.antt of `host_words`, and beside the values; words that no field names do not matter.
 use Prim.Native.Nat.{ℕ}
-use mathlib.Core.Bool.{Bool, true, _||_, _&&_, cond}
+use mathlib.Core.Bool.{Bool, _||_, cond}
 use mathlib.Core.List.{List}
 use lib.Dec.{eqb, ltb}
-use lib.ListN.{length, getD}
+use lib.ListN.{length}
 use Rattle.book.specs.Memory.{Extent}
 use Rattle.reconstructor_state.specs.declared.VenueRules.{VenueRules}
 use Rattle.reconstructor_state.specs.State.{ceiling}
 use Rattle.reconstructor_checks.specs.StateChecks.{overCeiling, memoryShort}
+use Rattle.host_word_tests.specs.WordTests.{noBook}
 use Rattle.host_words.specs.Block.{stateWords, rulesOf}
 
 abbrev pub shortInput : ℕ
 shortInput = 768
 
--- a side, a reason, a presence, an anchor and a flag are 0 or 1
-abbrev pub noBit : ℕ → Bool
-noBit w = ltb 1 w
-
--- ---- 4
-
-unfoldable pub noDone : List ℕ → Bool
-noDone ws = noBit (getD ws 7 0) || (noBit (getD ws 8 0) || (noBit (getD ws 10 0) || noBit (getD ws 11 0)))
-
-unfoldable pub noChange : List ℕ → Bool
-noChange ws =
-    noBit (getD ws 7 0) ||
-    (noBit (getD ws 8 0) ||
-    (noBit (getD ws 9 0) ||
-    (noBit (getD ws 11 0) || (noBit (getD ws 13 0) || (noBit (getD ws 15 0) || (noBit (getD ws 17 0) || noBit (getD ws 19 0)))))))
-
--- by its kind; 01: "an unsupported kind a 32-bit number"
-unfoldable pub noMessage : List ℕ → Bool
-noMessage ws =
-    cond (eqb (getD ws 0 0) 1) (noBit (getD ws 7 0))
-    (cond (eqb (getD ws 0 0) 2) (noBit (getD ws 7 0))
-    (cond (eqb (getD ws 0 0) 3) (noDone ws)
-    (cond (eqb (getD ws 0 0) 4) (noBit (getD ws 9 0))
-    (cond (eqb (getD ws 0 0) 5) (noChange ws) (cond (eqb (getD ws 0 0) 6) (ltb 4294967295 (getD ws 5 0)) true)))))
-
-abbrev pub noHandshake : List ℕ → Bool
-noHandshake hs = noBit (getD hs 2 0)
-
-abbrev pub noEstimate : List ℕ → Bool
-noEstimate e = noBit (getD e 0 0) || noBit (getD e 4 0)
-
 -- ---- 3
-
--- a reason is 20 to 22 or 30 to 44, and 38 is of one of two
-abbrev pub noReason : ℕ → ℕ → Bool
-noReason k detail = cond (eqb k 38) (noBit detail) (ltb k 20 || ((ltb 22 k && ltb k 30) || ltb 44 k))
-
-unfoldable pub noBook : List ℕ → Bool
-noBook st = noBit (getD st 2 0) || (ltb 2 (getD st 6 0) || (eqb (getD st 6 0) 2 && noReason (getD st 9 0) (getD st 12 0)))
 
 -- 1, 2, then 3, the ceiling being an argument; `less` says that scratch is under max_orders, or the list shorter than the segment count
 unfoldable pub noBookNumber : ℕ → VenueRules → Extent → Bool → ℕ

@@ -38,7 +38,9 @@ use Rattle.reconstructor_bootstrap.specs.Bootstrap as boot
 use Rattle.host_records.specs.Records.{recordsIn, recordsOf, relaid}
 use Rattle.reconstructor_answers.specs.Numbers.{answerNumber}
 use Rattle.host_words.specs.Block.{stateWords, bookOf, messageOf, restored, raised, setsStatus}
-use Rattle.host_boundary.specs.Boundary.{noMessage, noBook, unlessTurned}
+use Rattle.host_word_tests.specs.WordTests.{noBook}
+use Rattle.host_message_tests.specs.MessageTests.{noMessage}
+use Rattle.host_boundary.specs.Boundary.{unlessTurned}
 use Rattle.host_boundary.proofs.Passed.{Passed, passes, by-boundary}
 use Rattle.host_calls.specs.Calls.{Call, called, afterApply, afterBootstrap, applyCall, bootstrapCall}
 use Rattle.host_calls.specs.Refused.{acts, refusedState, refusalLeaves, snapshotLeaves}

@@ -30,7 +30,9 @@ use Rattle.reconstructor_handshake.specs.Step.{otherSegment, drops, with, after
 use Rattle.host_records.specs.Records.{recordsOf, relaid}
 use Rattle.reconstructor_answers.specs.Numbers.{answerNumber}
 use Rattle.host_words.specs.Block.{stateWords, bookOf, messageOf, restored, raised}
-use Rattle.host_boundary.specs.Boundary.{noMessage, noHandshake, unlessTurned}
+use Rattle.host_word_tests.specs.WordTests.{noHandshake}
+use Rattle.host_message_tests.specs.MessageTests.{noMessage}
+use Rattle.host_boundary.specs.Boundary.{unlessTurned}
 use Rattle.host_boundary.proofs.Passed.{Passed, passes, by-boundary}
 use Rattle.host_handshake.specs.HandshakeWords.{handshakeOf, handshakeLeft, stepSets}
 use Rattle.host_calls.specs.Calls.{Call, StepCall, stepCalled, afterStep, stepCall}

@@ -9,7 +9,9 @@ use Rattle.book.specs.Memory.{memory, extentOf}
 use Rattle.host_records.specs.Records.{recordsIn, recordsOf, relaid}
 use Rattle.reconstructor_answers.specs.Numbers.{answerTold}
 use Rattle.host_words.specs.Block.{bookOf, restored, messageOf, setsStatus}
-use Rattle.host_boundary.specs.Boundary.{noMessage, noHandshake, boundary, ownBoundary, unlessTurned}
+use Rattle.host_word_tests.specs.WordTests.{noHandshake}
+use Rattle.host_message_tests.specs.MessageTests.{noMessage}
+use Rattle.host_boundary.specs.Boundary.{boundary, ownBoundary, unlessTurned}
 use Rattle.reconstructor.specs.Applied.{Parts, applied}
 use Rattle.reconstructor_bootstrap.specs.Numbers.{snapshotTold}
 use Rattle.reconstructor_bootstrap.specs.Bootstrap.{Parts as SnapshotParts, bootstrapped}

@@ -12,7 +12,8 @@ use Rattle.book.specs.Memory.{memory, extentOf}
 use Rattle.host_words.specs.Block.{bookOf}
 use Rattle.queue.specs.Numbers.{estimateTold, aheadTold}
 use Rattle.queue.specs.Estimates.{EstimateParts, queueEstimate, queueEstimateOwn, volumeAhead}
-use Rattle.host_boundary.specs.Boundary.{noBit, noEstimate, boundary, unlessTurned}
+use Rattle.host_word_tests.specs.WordTests.{noBit, noEstimate}
+use Rattle.host_boundary.specs.Boundary.{boundary, unlessTurned}
 use Rattle.host_answers.specs.Answers.{Answered, answered, toldIn, lastly}
 use Rattle.host_estimate_words.specs.Estimates.{estimateWords, estimateOf}
 

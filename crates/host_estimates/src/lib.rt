@@ -1,12 +1,12 @@
 // The queue estimates of a book whose state is words: those that `host` exports.
 use host_answers::unwritten;
 use host_boundary::boundary;
-use host_boundary::no_bit;
-use host_boundary::no_estimate;
 use host_estimate_words::ESTIMATE_WORDS;
 use host_estimate_words::load_estimate;
 use host_estimate_words::store_ahead;
 use host_estimate_words::store_estimate;
+use host_word_tests::no_bit;
+use host_word_tests::no_estimate;
 use host_words::load_book;
 use host_words::load_side;
 use host_words::signed;

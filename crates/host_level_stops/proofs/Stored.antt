@@ -21,7 +21,8 @@ use Rattle.reconstructor_reads.specs.declared.Shown.the-variants.{Entries, Outp
 use Rattle.reconstructor_reads.specs.declared.LevelAnswer.{LevelAnswer}
 use Rattle.reconstructor_reads.specs.Numbers.{shownTold, levelTold}
 use Rattle.reconstructor_reads.specs.LevelReads.{Shows, LevelRead, leaves, levelRead}
-use Rattle.host_boundary.specs.Boundary.{noBit, unlessTurned}
+use Rattle.host_word_tests.specs.WordTests.{noBit}
+use Rattle.host_boundary.specs.Boundary.{unlessTurned}
 use Rattle.host_boundary.proofs.Passed.{passed}
 use Rattle.host_answers.specs.Answers.{Answered, answered, toldIn, lastly}
 use Rattle.host_level_stops.specs.Stops.{LevelCall, levelCalled, counted, afterLevel, levelBoundary, stopOf}

@@ -12,7 +12,8 @@ use Rattle.reconstructor_view.specs.ValueReads.{sequenceOf, viewRefusalOf}
 use Rattle.reconstructor_reads.specs.Numbers.{levelTold}
 use Rattle.reconstructor_reads.specs.LevelReads.{LevelRead}
 use Rattle.host_words.specs.Block.{bookOf}
-use Rattle.host_boundary.specs.Boundary.{noBit, boundary}
+use Rattle.host_word_tests.specs.WordTests.{noBit}
+use Rattle.host_boundary.specs.Boundary.{boundary}
 use Rattle.host_answers.specs.Answers.{toldIn, lastly}
 
 -- the answer, and the lent words afterwards

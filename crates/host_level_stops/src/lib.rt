@@ -1,8 +1,8 @@
 // What stands in the way of a level read of a book whose state is words. specs/Stops.antt says what every level read comes to.
 use host_answers::unwritten;
 use host_boundary::boundary;
-use host_boundary::no_bit;
-use host_boundary::scratch_short;
+use host_word_tests::no_bit;
+use host_word_tests::scratch_short;
 use host_words::load_book;
 ghost use mathlib.Core.Path.{_≡_};
 ghost use Rattle.host_level_stops.specs.Stops.{levelStop};

@@ -1,9 +1,9 @@
 // A run of messages applied to a book whose state and messages are words. Numbers 1, 2 and 3 are tested once.
 use host_boundary::boundary;
-use host_boundary::list_short;
 use host_records::RECORD_WORDS;
 use host_replay_run::replay_few;
 use host_replay_run::replay_many;
+use host_word_tests::list_short;
 use host_words::load_book;
 use piece::MESSAGE_WORDS;
 use reconstructor_checks::Checked;

@@ -25,7 +25,8 @@ use Rattle.host_records.specs.Records.{recordsIn, recordsOf, relaid}
 use Rattle.host_records.proofs.Records.{length-records}
 use Rattle.reconstructor_answers.specs.Numbers.{answerNumber}
 use Rattle.host_words.specs.Block.{stateWords, bookOf, messageOf, restored, setsStatus}
-use Rattle.host_boundary.specs.Boundary.{noMessage, noBook}
+use Rattle.host_word_tests.specs.WordTests.{noBook}
+use Rattle.host_message_tests.specs.MessageTests.{noMessage}
 use Rattle.host_calls.specs.Calls.{called, afterApply, applyCall}
 use Rattle.reconstructor_checks.proofs.StateChecks.{usable, trusted-under}
 use Rattle.reconstructor.proofs.ByValue.{applied-trusted, applied-trusted-to}

@@ -11,7 +11,7 @@ use Rattle.reconstructor_state.specs.State.{ceiling}
 use Rattle.reconstructor_checks.specs.StateChecks.{Usable}
 use Rattle.host_records.specs.Records.{recordsIn}
 use Rattle.host_words.specs.Block.{stateWords, bookOf}
-use Rattle.host_boundary.specs.Boundary.{noBook}
+use Rattle.host_word_tests.specs.WordTests.{noBook}
 
 -- lent words that are enough, a state that passes 1, 2 and 3, and an index of its rows
 pub record Runs (st ws sg places : List ℕ) (b : Bounds) : Type 0 where

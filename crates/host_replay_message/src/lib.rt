@@ -1,6 +1,6 @@
 // A message of a run, applied to a book whose state and messages are words, with an index of the rows.
 use book_index::Bounds;
-use host_boundary::no_message;
+use host_message_tests::no_message;
 use host_messages::load_message;
 use host_records::last_record;
 use host_records::rewrite_record;
@@ -12,7 +12,7 @@ ghost use mathlib.Core.Bool.{false};
 ghost use Prim.Native.Nat.{_≤_};
 ghost use lib.ListN.{length};
 ghost use Rattle.piece.specs.Words.{messageWords};
-ghost use Rattle.host_boundary.specs.Boundary.{noMessage};
+ghost use Rattle.host_message_tests.specs.MessageTests.{noMessage};
 ghost use Rattle.host_calls.specs.Calls.{called, applyCall};
 ghost use Rattle.host_replay_message.specs.Runs.{Runs};
 

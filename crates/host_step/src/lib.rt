@@ -1,18 +1,18 @@
 // A handshake made and stepped where the state, the handshake, the message and the segment list are words: the calls that `host` exports. A step does on words
 // what `Handshake::step` does on a slice of records, by the same work.
 use host_boundary::boundary;
-use host_boundary::list_short;
-use host_boundary::no_handshake;
-use host_boundary::no_message;
 use host_boundary::own_boundary;
 use host_handshake::HANDSHAKE_WORDS;
 use host_handshake::load_handshake;
 use host_handshake::step_sets_status;
 use host_handshake::store_handshake;
+use host_message_tests::no_message;
 use host_messages::load_message;
 use host_records::RECORD_WORDS;
 use host_records::last_record;
 use host_records::rewrite_record;
+use host_word_tests::list_short;
+use host_word_tests::no_handshake;
 use host_words::load_book;
 use host_words::store_book;
 use piece::MESSAGE_WORDS;

@@ -9,7 +9,8 @@ use Rattle.host_calls.proofs.Blocks.{less}
 use borrow.Author.Tests.{ltb-false, eq-eqb}
 use Rattle.book.specs.Memory.{memory, extentOf}
 use Rattle.reconstructor_state.specs.State.{ceiling}
-use Rattle.host_boundary.specs.Boundary.{noMessage, boundary}
+use Rattle.host_message_tests.specs.MessageTests.{noMessage}
+use Rattle.host_boundary.specs.Boundary.{boundary}
 use Rattle.host_boundary.proofs.Passed.{passed, turned-away, goes-on}
 use Rattle.host_calls.specs.Calls.{called, applyCall}
 use Rattle.host_calls.proofs.Works.{apply-leaves}

@@ -9,7 +9,8 @@ use mir.Syntax.{w64}
 use mir.Val.{toZ}
 use Rattle.piece.specs.Piece.{sideOf}
 use Rattle.message.proofs.Signed.{back}
-use Rattle.host_boundary.specs.Boundary.{noBit, boundary}
+use Rattle.host_word_tests.specs.WordTests.{noBit}
+use Rattle.host_boundary.specs.Boundary.{boundary}
 use Rattle.host_boundary.proofs.Passed.{passed, turned-away, goes-on}
 use Rattle.host_estimates.specs.Estimates.{estimateCalled, estimateCall}
 use Rattle.host_estimates.proofs.Stored.{estimate-stored, estimate-unwritten}

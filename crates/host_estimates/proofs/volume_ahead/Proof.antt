@@ -7,7 +7,8 @@ use mathlib.Core.Bool.{Bool, false}
 use lib.ListN.{length}
 use lib.Dec.{ltb}
 use borrow.Author.Tests.{eq-eqb, ltb-false}
-use Rattle.host_boundary.specs.Boundary.{noEstimate, boundary}
+use Rattle.host_word_tests.specs.WordTests.{noEstimate}
+use Rattle.host_boundary.specs.Boundary.{boundary}
 use Rattle.host_boundary.proofs.Passed.{passed, turned-away, goes-on}
 use Rattle.queue.specs.Numbers.{aheadTold}
 use Rattle.host_answers.specs.Answers.{answered, toldIn}

@@ -9,7 +9,9 @@ use lib.ListN.{length}
 use Rattle.host_calls.proofs.Blocks.{less}
 use Rattle.book.specs.Memory.{memory, extentOf}
 use Rattle.reconstructor_state.specs.State.{ceiling}
-use Rattle.host_boundary.specs.Boundary.{noMessage, noHandshake, boundary}
+use Rattle.host_word_tests.specs.WordTests.{noHandshake}
+use Rattle.host_message_tests.specs.MessageTests.{noMessage}
+use Rattle.host_boundary.specs.Boundary.{boundary}
 use Rattle.host_boundary.proofs.Passed.{passed, turned-away, goes-on}
 use Rattle.host_words.proofs.Lent.{lent-two}
 use Rattle.host_calls.specs.Calls.{stepCalled, stepCall}

@@ -1,7 +1,7 @@
-use Rattle.host_boundary.specs.Boundary.{noChange}
+use Rattle.host_message_tests.specs.MessageTests.{noChange}
 use borrow.Author.Needs.{needs}
-use Rattle.host_boundary.proofs.no_change.Statement.{statement}
-use Rattle.host_boundary.proofs.no_change.Tie as tie
+use Rattle.host_message_tests.proofs.no_change.Statement.{statement}
+use Rattle.host_message_tests.proofs.no_change.Tie as tie
 
 returns : tie.Need-returns
 unfolding noChange

@@ -1,6 +1,6 @@
 use borrow.Author.Tests.{eq-eqb, ne-eqb}
-use Rattle.host_boundary.proofs.no_reason.Statement.{statement}
-use Rattle.host_boundary.proofs.no_reason.Tie as tie
+use Rattle.host_word_tests.proofs.no_reason.Statement.{statement}
+use Rattle.host_word_tests.proofs.no_reason.Tie as tie
 
 returns : tie.Need-returns
 returns c = rw (eq-eqb _ _ (c .if1 .taken))

@@ -1,9 +1,9 @@
 -- The kind word that picks an arm of the code passes the same test of `noMessage`; a kind in the last arm fails all six tests, and is no message in both.
-use Rattle.host_boundary.specs.Boundary.{noMessage}
+use Rattle.host_message_tests.specs.MessageTests.{noMessage}
 use borrow.Author.Tests.{ne-eqb}
 use borrow.Author.Needs.{needs}
-use Rattle.host_boundary.proofs.no_message.Statement.{statement}
-use Rattle.host_boundary.proofs.no_message.Tie as tie
+use Rattle.host_message_tests.proofs.no_message.Statement.{statement}
+use Rattle.host_message_tests.proofs.no_message.Tie as tie
 
 returns : tie.Need-returns
 unfolding noMessage

@@ -1,6 +1,6 @@
 use borrow.Author.Needs.{needs}
-use Rattle.host_boundary.proofs.no_handshake.Statement.{statement}
-use Rattle.host_boundary.proofs.no_handshake.Tie as tie
+use Rattle.host_word_tests.proofs.no_handshake.Statement.{statement}
+use Rattle.host_word_tests.proofs.no_handshake.Tie as tie
 
 returns : tie.Need-returns
 returns c = rw (c .word .ensures)

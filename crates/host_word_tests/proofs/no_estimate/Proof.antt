@@ -1,6 +1,6 @@
 use borrow.Author.Needs.{needs}
-use Rattle.host_boundary.proofs.no_estimate.Statement.{statement}
-use Rattle.host_boundary.proofs.no_estimate.Tie as tie
+use Rattle.host_word_tests.proofs.no_estimate.Statement.{statement}
+use Rattle.host_word_tests.proofs.no_estimate.Tie as tie
 
 returns : tie.Need-returns
 returns c = rw (c .word2 .ensures, c .before .word .ensures)

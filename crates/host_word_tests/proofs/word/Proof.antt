@@ -1,8 +1,8 @@
 use mathlib.Core.Path.{sym}
 use lib.ListN.{List·getD-eq-default}
 use borrow.Author.Needs.{needs}
-use Rattle.host_boundary.proofs.word.Statement.{statement}
-use Rattle.host_boundary.proofs.word.Tie as tie
+use Rattle.host_word_tests.proofs.word.Statement.{statement}
+use Rattle.host_word_tests.proofs.word.Tie as tie
 
 returns-2 : tie.Need-returns-2
 returns-2 c = sym (List·getD-eq-default (c .before .args .words .now) 0 (c .if1 .left))

@@ -1,7 +1,7 @@
-use Rattle.host_boundary.specs.Boundary.{noDone}
+use Rattle.host_message_tests.specs.MessageTests.{noDone}
 use borrow.Author.Needs.{needs}
-use Rattle.host_boundary.proofs.no_done.Statement.{statement}
-use Rattle.host_boundary.proofs.no_done.Tie as tie
+use Rattle.host_message_tests.proofs.no_done.Statement.{statement}
+use Rattle.host_message_tests.proofs.no_done.Tie as tie
 
 returns : tie.Need-returns
 unfolding noDone

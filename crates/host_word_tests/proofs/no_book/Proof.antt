@@ -1,7 +1,7 @@
-use Rattle.host_boundary.specs.Boundary.{noBook}
+use Rattle.host_word_tests.specs.WordTests.{noBook}
 use borrow.Author.Needs.{needs}
-use Rattle.host_boundary.proofs.no_book.Statement.{statement}
-use Rattle.host_boundary.proofs.no_book.Tie as tie
+use Rattle.host_word_tests.proofs.no_book.Statement.{statement}
+use Rattle.host_word_tests.proofs.no_book.Tie as tie
 
 returns : tie.Need-returns
 unfolding noBook
