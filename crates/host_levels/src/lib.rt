@@ -1,7 +1,7 @@
 // The level reads of a book whose state is words: those that `host` exports.
-use host_answers::store_level;
-use host_answers::store_stale;
 use host_answers::unwritten;
+use host_answers_levels::store_level;
+use host_answers_levels::store_stale;
 use host_boundary::boundary;
 use host_boundary::no_bit;
 use host_boundary::scratch_short;
