@@ -13,7 +13,8 @@ ghost use Rattle.host_new.specs.New.{newCall};
 ghost use Rattle.host_calls.specs.Calls.{called, stepCalled, applyCall, bootstrapCall, handshakeCall, stepCall};
 ghost use Rattle.host_replay_run.specs.Run.{replayCalled};
 ghost use Rattle.host_replay.specs.Replay.{replayCall};
-ghost use Rattle.host_views.specs.Views.{lastCall, bestCall, auditCall, invalidationCall, segmentCall};
+ghost use Rattle.host_views.specs.Views.{lastCall, bestCall, auditCall};
+ghost use Rattle.host_views_segment.specs.SegmentViews.{invalidationCall, segmentCall};
 ghost use Rattle.host_level_stops.specs.Stops.{levelCalled};
 ghost use Rattle.host_levels.specs.Levels.{profileCall, l2Call};
 ghost use Rattle.host_level_queue.specs.LevelQueue.{queueCall};
@@ -182,7 +183,7 @@ pub extern "C" fn pinuglaw_audit(state: &[u64], rows: &[u64]) -> u64
 pub extern "C" fn pinuglaw_invalidation(state: &[u64], out: &mut [u64]) -> u64
     ensures { λ r. ⌜ answered r (now (out .exit)) ≡ invalidationCall (now (state .entry)) (now (out .entry)) ⌝ }
 {
-    host_views::invalidation(state, out)
+    host_views_segment::invalidation(state, out)
 }
 
 // The record of the segment at a place of the list, into ten words: its eight, its elapsed time, and how many messages it accepted. Answers 256, writing
@@ -196,7 +197,7 @@ pub extern "C" fn pinuglaw_segment(
 ) -> u64
     ensures { λ r. ⌜ answered r (now (out .exit)) ≡ segmentCall (now (state .entry)) (now (segments .entry)) place (now (out .entry)) ⌝ }
 {
-    host_views::segment(state, segments, place, out)
+    host_views_segment::segment(state, segments, place, out)
 }
 
 // The orders at a side (0 buy, 1 sell) and price (an amount's bits), five words each, and their number.
@@ -286,7 +287,7 @@ pub extern "C" fn pinuglaw_queue_estimate_own(
 ) -> u64
     ensures { λ r. ⌜ answered r (now (estimate .exit)) ≡ ownCall (now (state .entry)) (now (rows .entry)) «id_high» «id_low» (now (estimate .entry)) ⌝ }
 {
-    host_estimates::queue_estimate_own(state, rows, id_high, id_low, estimate)
+    host_estimates_own::queue_estimate_own(state, rows, id_high, id_low, estimate)
 }
 
 // The volume ahead of an estimate, into seven words.
@@ -300,5 +301,5 @@ pub extern "C" fn pinuglaw_volume_ahead(
 ) -> u64
     ensures { λ r. ⌜ answered r (now (out .exit)) ≡ aheadCall (now (state .entry)) (now (rows .entry)) (now (estimate .entry)) (now (ahead .entry)) (now (out .entry)) ⌝ }
 {
-    host_estimates::volume_ahead(state, rows, estimate, ahead, out)
+    host_ahead::volume_ahead(state, rows, estimate, ahead, out)
 }

@@ -1,15 +1,13 @@
--- The exported reads whose answer is a value: what each answers and writes. Rows, state and what is lent to be read stay as they are; a refusal, 7 included, writes nothing.
+-- The exported reads of a valid book whose answer is a value: what each answers and writes. Rows, state and what is lent to be read stay as they are; a refusal, 7 included, writes nothing.
 use Prim.Native.Nat.{ℕ}
 use mathlib.Core.List.{List}
 use mathlib.Core.Bool.{false}
-use lib.ListN.{length}
 use Rattle.reconstructor_state.specs.State.{ceiling}
 use Rattle.book.specs.Memory.{memory, extentOf}
 use Rattle.host_words.specs.Block.{bookOf}
-use Rattle.reconstructor_view.specs.Numbers.{sequenceTold, bestTold, auditedTold, invalidationTold, segmentTold}
-use Rattle.reconstructor_view.specs.ValueReads.{lastSequence, bestRead, auditRead, invalidationOf, segmentRead}
-use Rattle.host_boundary.specs.Boundary.{boundary, ownBoundary, unlessTurned}
-use Rattle.host_records.specs.Records.{recordsOf}
+use Rattle.reconstructor_view.specs.Numbers.{sequenceTold, bestTold, auditedTold}
+use Rattle.reconstructor_view.specs.ValueReads.{lastSequence, bestRead, auditRead}
+use Rattle.host_boundary.specs.Boundary.{boundary, unlessTurned}
 use Rattle.host_answers.specs.Answers.{Answered, answered, toldIn}
 
 unfoldable pub lastCall : List ℕ → List ℕ → List ℕ → Answered
@@ -24,13 +22,3 @@ bestCall st ws out =
 unfoldable pub auditCall : List ℕ → List ℕ → ℕ
 auditCall st ws =
     unlessTurned (boundary st (extentOf (memory ws)) false false false) (λ (k : ℕ). k) (auditedTold (auditRead ceiling (bookOf st) (memory ws)) .number)
-
--- ---- the state's own fields and the lent list, whatever the standing
-
-unfoldable pub invalidationCall : List ℕ → List ℕ → Answered
-invalidationCall st out =
-    unlessTurned (ownBoundary st) (λ (k : ℕ). answered k out) (toldIn (invalidationTold (invalidationOf (bookOf st .status))) out)
-
-unfoldable pub segmentCall : List ℕ → List ℕ → ℕ → List ℕ → Answered
-segmentCall st sg place out =
-    unlessTurned (ownBoundary st) (λ (k : ℕ). answered k out) (toldIn (segmentTold (segmentRead (bookOf st) (recordsOf sg) place)) out)

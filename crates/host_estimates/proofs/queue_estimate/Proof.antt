@@ -1,19 +1,15 @@
--- `boundary` answers the definition's number, and 0 only where the state can be loaded. Without words for the estimate a valid book is told 7 whether the list
--- has room or not, so the refusals alone, which `unwritten` works out, tell the number (`estimate-unwritten`).
+-- `boundary` answers the definition's number, and 0 only where the state can be loaded. What is loaded is what the definition reads from the words, so
+-- `estimate_of` tells what the definition tells.
 use Rattle.book.specs.Memory.{memory, extentOf}
 use mathlib.Core.Path.{sym, ap, _∙_}
 use Prim.Native.Nat.{ℕ}
 use mathlib.Core.Bool.{Bool, false}
 use borrow.Author.Tests.{eq-eqb}
-use mir.Syntax.{w64}
-use mir.Val.{toZ}
-use Rattle.piece.specs.Piece.{sideOf}
 use Rattle.message.proofs.Signed.{back}
 use Rattle.host_word_tests.specs.WordTests.{noBit}
 use Rattle.host_boundary.specs.Boundary.{boundary}
 use Rattle.host_boundary.proofs.Passed.{passed, turned-away, goes-on}
 use Rattle.host_estimates.specs.Estimates.{estimateCalled, estimateCall}
-use Rattle.host_estimates.proofs.Stored.{estimate-stored, estimate-unwritten}
 use borrow.Author.Needs.{needs}
 use Rattle.host_estimates.proofs.queue_estimate.Statement.{statement}
 use Rattle.host_estimates.proofs.queue_estimate.Tie as tie
@@ -32,27 +28,16 @@ load-book-requires c κs =
 returns-2 : tie.Need-returns-2
 unfolding estimateCall
 returns-2 c =
-    let k-if1 = c .before .before .before in
-    let k-boundary = k-if1 .before in
-    let k-no-bit = k-boundary .before in
-    let k-start = k-no-bit .before .before .before .before .before in
-    goes-on _ _ (λ (n : ℕ). estimateCalled n (k-start .args .ahead .now) (k-start .args .estimate .now)) _ _ (k-boundary .boundary .ensures ∙ ap (λ (y : Bool). boundary (k-start .args .state .now) (extentOf (memory (k-start .args .rows .now))) false false y) (k-no-bit .no-bit .ensures)) (k-if1 .if1 .left)
-    (rw (← c .before .before .load-book .ensures) (estimate-unwritten _ (k-start .args .ahead .now) (k-start .args .estimate .now) (c .before .before .load-book .result) (memory (k-start .args .rows .now)) (sideOf (k-start .args .side)) (toZ w64 (k-start .args .price)) (c .before .if2 .taken) (c .unwritten .ensures)))
-
-returns-3 : tie.Need-returns-3
-unfolding estimateCall
-returns-3 c =
-    let k-queue-estimate = c .before .before .before .before .before .before in
-    let k-signed = k-queue-estimate .before .before in
+    let k-estimate-of = c .before .before .before .before in
+    let k-signed = k-estimate-of .before .before .before in
     let k-load-side = k-signed .before in
-    let k-if2 = k-load-side .before in
-    let k-load-book = k-if2 .before in
+    let k-load-book = k-load-side .before in
     let k-if1 = k-load-book .before in
     let k-boundary = k-if1 .before in
     let k-no-bit = k-boundary .before in
     let k-start = k-no-bit .before .before .before .before .before in
     goes-on _ _ (λ (n : ℕ). estimateCalled n (k-start .args .ahead .now) (k-start .args .estimate .now)) _ _ (k-boundary .boundary .ensures ∙ ap (λ (y : Bool). boundary (k-start .args .state .now) (extentOf (memory (k-start .args .rows .now))) false false y) (k-no-bit .no-bit .ensures)) (k-if1 .if1 .left)
-    (rw (← k-load-book .load-book .ensures, ← k-load-side .load-side .ensures, ← k-signed .signed .ensures, ← back (k-signed .signed .result) (k-signed .signed .ok)) (estimate-stored _ _ _ (k-start .args .ahead .now) (k-start .args .estimate .now) (k-if2 .if2 .left) _ _ (c .before .before .store-estimate .ensures) (k-queue-estimate .queue-estimate .ensures .0)))
+    (rw (← k-load-book .load-book .ensures, ← k-load-side .load-side .ensures, ← k-signed .signed .ensures, ← back (k-signed .signed .result) (k-signed .signed .ok)) (k-estimate-of .estimate-of .ensures))
 
 pub queue-estimate-spec : {M : Type 1} → statement M
 queue-estimate-spec =
@@ -63,11 +48,8 @@ queue-estimate-spec =
     returns
     load-book-requires
     (λ c κs. search needs)
-    returns-2
-    (λ c κs. search needs)
-    (λ c κs. search needs)
     (λ c κs. search needs)
     (λ c κs. search needs)
     (λ c. search needs)
     (λ c. search needs)
-    returns-3)
+    returns-2)
