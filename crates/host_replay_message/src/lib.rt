@@ -44,7 +44,7 @@ fn apply_message(
     let next = book_index_upkeep::foresee(rows, n, bounds, event);
     let count = book.segments;
     let last = last_record(segments, count);
-    let work = reconstructor_apply::apply_indexed(book, rows, last, places, next, message);
+    let work = reconstructor_apply_trusted::apply_indexed(book, rows, last, places, next, message);
     rewrite_record(segments, count, work.segment);
     book_index_upkeep::note(places, n, event);
     let answer = work.answer;

@@ -2,7 +2,7 @@
 use message::L3Message;
 use reconstructor::Work;
 use reconstructor_answers::ApplyAnswer;
-use reconstructor_apply::apply_trusted;
+use reconstructor_apply_trusted::apply_trusted;
 use reconstructor_checks::Checked;
 use reconstructor_counts::Counter;
 use reconstructor_handshake_rules::applied_by;

@@ -1,8 +1,8 @@
 -- By the answer, as `refusedBook` splits: only another product and an invalid book are counted, each by the contract of `counting`; else the book stays.
 use borrow.Author.Needs.{needs}
 use Rattle.reconstructor.specs.Applied.{refusedReply}
-use Rattle.reconstructor_apply.proofs.refused.Statement.{statement}
-use Rattle.reconstructor_apply.proofs.refused.Tie as tie
+use Rattle.reconstructor_apply_parts.proofs.refused.Statement.{statement}
+use Rattle.reconstructor_apply_parts.proofs.refused.Tie as tie
 
 returns : tie.Need-returns
 unfolding refusedReply

@@ -4,8 +4,8 @@ use Rattle.book.specs.Memory.{memory}
 use Rattle.book_index.proofs.Index.{unindexed}
 use Rattle.reconstructor_checks.proofs.StateChecks.{sound}
 use Rattle.reconstructor.proofs.Laws.{trusted-ready}
-use Rattle.reconstructor_apply.proofs.apply_trusted.Statement.{statement}
-use Rattle.reconstructor_apply.proofs.apply_trusted.Tie as tie
+use Rattle.reconstructor_apply_trusted.proofs.apply_trusted.Statement.{statement}
+use Rattle.reconstructor_apply_trusted.proofs.apply_trusted.Tie as tie
 
 apply-indexed-requires : tie.Need-apply-indexed-requires
 apply-indexed-requires c κs =

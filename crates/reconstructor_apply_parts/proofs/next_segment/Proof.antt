@@ -1,6 +1,6 @@
 use borrow.Author.Needs.{needs}
-use Rattle.reconstructor_apply.proofs.next_segment.Statement.{statement}
-use Rattle.reconstructor_apply.proofs.next_segment.Tie as tie
+use Rattle.reconstructor_apply_parts.proofs.next_segment.Statement.{statement}
+use Rattle.reconstructor_apply_parts.proofs.next_segment.Tie as tie
 
 returns : tie.Need-returns
 returns c = rw (c .extended .ensures, c .before .enum-told .given .1)

@@ -1,8 +1,8 @@
 use borrow.Author.Needs.{needs}
 use Rattle.reconstructor.specs.Applied.{answered}
 use Rattle.reconstructor.proofs.ByValue.{joins}
-use Rattle.reconstructor_apply.proofs.apply_indexed.Statement.{statement}
-use Rattle.reconstructor_apply.proofs.apply_indexed.Tie as tie
+use Rattle.reconstructor_apply_trusted.proofs.apply_indexed.Statement.{statement}
+use Rattle.reconstructor_apply_trusted.proofs.apply_indexed.Tie as tie
 
 returns : tie.Need-returns
 unfolding answered

@@ -5,8 +5,8 @@ use borrow.Author.Needs.{needs}
 use Rattle.reconstructor.specs.Refusals.{statusRefusal, admitRefusal}
 use Rattle.reconstructor_state.specs.State.{lastOf}
 use Rattle.reconstructor_state.proofs.Checks.{goes-on, links}
-use Rattle.reconstructor_apply.proofs.admit.Statement.{statement}
-use Rattle.reconstructor_apply.proofs.admit.Tie as tie
+use Rattle.reconstructor_apply_parts.proofs.admit.Statement.{statement}
+use Rattle.reconstructor_apply_parts.proofs.admit.Tie as tie
 
 returns : tie.Need-returns
 unfolding admitRefusal
