@@ -1,4 +1,4 @@
--- Number 3's tests and those of an open and a snapshot as records: what a caller knows once they are passed.
+-- The tests of an open and of a snapshot as records: what a caller knows once they are passed.
 -- Assumes nothing.
 use Prim.Native.Nat.{ℕ, _≤_, _<_}
 use mathlib.Core.Path.{_≡_}
@@ -8,15 +8,7 @@ use lib.ListN.{length}
 use Rattle.book.specs.declared.Resting.{Resting}
 use Rattle.book.specs.Line.{Entry, rests, hasLevel, levels, crossed, wouldCross}
 use Rattle.book.specs.Rows.{idOf, sideOf, lineOf}
-use Rattle.book.specs.Broken.{outOfRange, rowBroken, someRowBroken, idTwice}
-
--- rows that number 3 does not name, within the limits
-pub record WellFormed (maxOrders maxLevels : ℕ) (os : List Resting) : Type 0 where
-  pub few : length os ≤ maxOrders
-  pub sound : someRowBroken os ≡ false
-  pub single : idTwice (lineOf os) ≡ false
-  pub flat : levels (lineOf os) ≤ maxLevels
-  pub apart : crossed (lineOf os) ≡ false
+use Rattle.book.specs.Broken.{outOfRange, rowBroken, idTwice}
 
 -- an open that planning accepts (34, 42, 41, 43): the id is new, the row sound, no crossing, room for an order and, "only if the price has no
 -- level", for a level

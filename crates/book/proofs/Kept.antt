@@ -22,8 +22,8 @@ use Rattle.book.specs.declared.Resting.{Resting}
 use Rattle.book.specs.Line.{Entry, rests, left, cut, sameLevel, volume, hasLevel, levels, crossed, wouldCross}
 use Rattle.book.specs.Rows.{rowWords, emptyRow, Lent, mostRows, rowAt, rowsFrom, rowsOf, idOf, sideOf, entryOf, lineOf, findRow, removeAt, reduced, cutRows, snapshotKind, snapshotRow}
 use Rattle.message.specs.Values.{amountLimit}
-use Rattle.book.specs.Broken.{outOfRange, flagBroken, rowBroken, someRowBroken, idTwice, rowsBroken, wordsBroken}
-use Rattle.book.proofs.Fits.{WellFormed, OpenFits, someOutOfRange, SnapshotFits}
+use Rattle.book.specs.Broken.{outOfRange, flagBroken, rowBroken, someRowBroken, idTwice, rowsBroken, wordsBroken, WellFormed}
+use Rattle.book.proofs.Fits.{OpenFits, someOutOfRange, SnapshotFits}
 use Rattle.book.proofs.Rows.{rows-split, length-rows, length-remove, remove-eq, getD-rows}
 use Rattle.book.proofs.Stored.{FoundAt, found-at}
 use Rattle.book.proofs.Moves.{twice-move, twice-join, levels-move, levels-join, levels-drop, crossed-move, crossed-join, crossed-front}

@@ -1,6 +1,7 @@
 -- Number 3, the rows' part. 01, number 3: "kind above 3; price or remaining 0 or above 10^15; a flag rule broken; an id twice; levels above the
 -- limit; best buy ≥ best sell".
-use Prim.Native.Nat.{ℕ, _*_}
+use Prim.Native.Nat.{ℕ, _*_, _≤_}
+use mathlib.Core.Path.{_≡_}
 use mathlib.Core.Bool.{Bool, false, not, _||_, _&&_}
 use mathlib.Core.List.{List, [], _∷_}
 use lib.Dec.{eqb, ltb}
@@ -40,3 +41,11 @@ rowsBroken maxLevels os =
 -- "rows above max_orders", before
 abbrev pub wordsBroken : ℕ → List ℕ → ℕ → Bool
 wordsBroken maxLevels ws n = ltb mostRows n || (ltb (length ws) (rowWords * n) || rowsBroken maxLevels (rowsOf ws n))
+
+-- rows that number 3 does not name, within the limits: what `level-bound` (proofs/Kept) is said of
+pub record WellFormed (maxOrders maxLevels : ℕ) (os : List Resting) : Type 0 where
+  pub few : length os ≤ maxOrders
+  pub sound : someRowBroken os ≡ false
+  pub single : idTwice (lineOf os) ≡ false
+  pub flat : levels (lineOf os) ≤ maxLevels
+  pub apart : crossed (lineOf os) ≡ false

@@ -70,5 +70,5 @@ ordersBy (cutTo d r mark) os = cutRows d r mark os
 ordersBy (snapshot seq es) os = map (snapshotRow seq) es
 
 -- to the memory of a book with n rows in use
-abbrev pub changed : Memory → ℕ → Effect → Memory
-changed m n f = record { rows = stored (m .rows) n (ordersBy f (ordersOf m n)) }
+abbrev pub memoryBy : Memory → ℕ → Effect → Memory
+memoryBy m n f = record { rows = stored (m .rows) n (ordersBy f (ordersOf m n)) }

@@ -10,8 +10,7 @@ use borrow.Author.Tests.{ne-eqb, le-ltb}
 use Rattle.laws.proofs.Bools.{or-no, or-both}
 use Rattle.book.specs.declared.Resting.{Resting}
 use Rattle.book.specs.Rows.{Lent, mostRows, rowWords, rowsOf}
-use Rattle.book.specs.Broken.{rowBroken, someRowBroken}
-use Rattle.book.proofs.Fits.{WellFormed}
+use Rattle.book.specs.Broken.{rowBroken, someRowBroken, WellFormed}
 use Rattle.book.proofs.Kept.{sound-row}
 use Rattle.book_valid.specs.declared.AuditAnswer.the-variants.{Ok}
 use Rattle.book_valid.specs.Audit.{someEmpty, auditRows, auditOf}

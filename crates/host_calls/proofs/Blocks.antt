@@ -28,7 +28,7 @@ use Rattle.reconstructor_segments.proofs.Last.{relast-same}
 use Rattle.reconstructor_state.specs.State.{ceiling, lastOf}
 use Rattle.reconstructor_plan.specs.Rules.{answerBy, eventDeed}
 use Rattle.reconstructor.specs.Refusals.{turnRefusal}
-use Rattle.reconstructor.specs.Applied.{refusedBook, refusedReply, invalidatedReply, acceptedReply, accepted, decided, answered, bookGate, appliedTo, applied, putBack}
+use Rattle.reconstructor.specs.Applied.{refusedBook, refusedReply, invalidatedReply, acceptedReply, accepted, decided, afterGate, bookGate, appliedTo, applied, putBack}
 use Rattle.reconstructor_bootstrap.specs.declared.SnapshotError.the-variants.{WrongProduct, DuplicateId, InvalidValue, Crossed, CapacityExceeded}
 use Rattle.reconstructor_bootstrap.specs.declared.SnapshotAnswer.{SnapshotAnswer}
 use Rattle.reconstructor_bootstrap.specs.declared.SnapshotAnswer.the-variants.{Bootstrapped, Unusable, NotAPiece, AmountOutOfRange, ListFull, Rejected}
@@ -42,7 +42,7 @@ use Rattle.host_word_tests.specs.WordTests.{noBook}
 use Rattle.host_message_tests.specs.MessageTests.{noMessage}
 use Rattle.host_boundary.specs.Boundary.{unlessTurned}
 use Rattle.host_boundary.proofs.Passed.{Passed, passes, by-boundary}
-use Rattle.host_calls.specs.Calls.{Call, called, afterApply, afterBootstrap, applyCall, bootstrapCall}
+use Rattle.host_calls.specs.Calls.{BookCall, called, afterApply, afterBootstrap, applyCall, bootstrapCall}
 use Rattle.host_calls.specs.Refused.{acts, refusedState, refusalLeaves, snapshotLeaves}
 use Rattle.laws.proofs.Bools.{absurd-bool}
 use Rattle.reconstructor.proofs.Kept.{refusal-counts}
@@ -94,23 +94,23 @@ module _ (st ws sg : List ℕ) (m : L3Message) (long : stateWords ≤ length st)
   abbrev turn : Option InvalidationKind
   turn = turnRefusal (bookOf st .rules) (lineIn (memory ws) (bookOf st .rows)) (lastOf (bookOf st .status)) m
 
-  abbrev gated : Option ApplyAnswer → Call
-  gated o = afterApply st sg (putBack (recordsOf sg) (bookOf st .segments) (answered (bookOf st) (memory ws) last m o))
+  abbrev gated : Option ApplyAnswer → BookCall
+  gated o = afterApply st sg (putBack (recordsOf sg) (bookOf st .segments) (afterGate (bookOf st) (memory ws) last m o))
 
   gated-words : (o : Option ApplyAnswer) → acts (gated o .number) ≡ false → gated o ≡ refusalLeaves (gated o .number) st ws sg
-  unfolding answered refusedReply
+  unfolding afterGate refusedReply
   gated-words (some a) h = ap₂ (λ (l t : List ℕ). called (answerNumber a) l ws t) (refused-words st a long h) (relaid-last sg (bookOf st .segments))
   gated-words none h = absurd-bool (sym (decided-acts (bookOf st) (memory ws) (lastOf (bookOf st .status)) m turn) ∙ h)
 
-  gated-state : (o : Option ApplyAnswer) → bookOf (gated o .state) ≡ answered (bookOf st) (memory ws) last m o .book
-  unfolding answered refusedReply
+  gated-state : (o : Option ApplyAnswer) → bookOf (gated o .state) ≡ afterGate (bookOf st) (memory ws) last m o .book
+  unfolding afterGate refusedReply
   gated-state (some a) =
       let b = bookOf st in
       rw (refusal-counts b a) (block-back st (setsStatus a) (b .status) (b .rows) (b .segments) (refusedBook b a .counts) long (λ e. refl))
   gated-state none = decided-state st (memory ws) (lastOf (bookOf st .status)) m turn long
 
   module _ (top : ℕ) where
-    abbrev ruled : Call
+    abbrev ruled : BookCall
     ruled = afterApply st sg (applied top (bookOf st) (memory ws) (recordsOf sg) m)
 
     pub applied-words : acts (ruled .number) ≡ false → ruled ≡ refusalLeaves (ruled .number) st ws sg
@@ -128,7 +128,7 @@ less st sg = ltb (recordsIn sg) (getD st 14 0)
 
 module _ (st ws sg m : List ℕ) where
   -- the call, by what the words are turned away for
-  abbrev applyBy : ℕ → Call
+  abbrev applyBy : ℕ → BookCall
   applyBy k = unlessTurned k (λ (n : ℕ). called n st ws sg) (afterApply st sg (applied ceiling (bookOf st) (memory ws) (recordsOf sg) (messageOf m)))
 
   pub apply-refused : acts (applyCall st ws sg m .number) ≡ false → applyCall st ws sg m ≡ refusalLeaves (applyCall st ws sg m .number) st ws sg
@@ -168,13 +168,13 @@ module _ (st ws sg bytes : List ℕ) where
   lastOne = lastSegment (recordsOf sg) (bookOf st .segments)
 
   -- the call by what the rules leave, then by what was found, and by what is lent
-  abbrev written : boot.Booted → Call
+  abbrev written : boot.Booted → BookCall
   written w = afterBootstrap st sg (boot.putBack (recordsOf sg) (bookOf st .segments) w)
 
   abbrev found : Option SnapshotAnswer → ReadSnapshot → boot.Booted
   found o r = boot.unlessRefused o (bookOf st) (memory ws) many lastOne (boot.taken r (bookOf st) (memory ws) many lastOne bytes)
 
-  abbrev rejected : SnapshotAnswer → Call
+  abbrev rejected : SnapshotAnswer → BookCall
   rejected x = written (boot.booted (boot.refusedWork x (bookOf st) many lastOne) (memory ws))
 
   rejected-list : relaid sg (set (relast (recordsOf sg) (bookOf st .segments) lastOne) many noSegment) ≡ sg
@@ -195,7 +195,7 @@ module _ (st ws sg bytes : List ℕ) where
   abbrev refusal : Option SnapshotAnswer
   refusal = refusalOf ceiling (bookOf st) (memory ws) (recordsOf sg) bytes
 
-  abbrev leftBy : ℕ → Call
+  abbrev leftBy : ℕ → BookCall
   leftBy k = unlessTurned k (λ (n : ℕ). called n st ws sg) (written (found refusal (readSnapshot bytes)))
 
   pub bootstrap-refused : eqb (bootstrapCall st ws sg bytes .number) 0 ≡ false → bootstrapCall st ws sg bytes ≡ snapshotLeaves (bootstrapCall st ws sg bytes .number) st ws sg

@@ -26,7 +26,7 @@ use Rattle.reconstructor_checks.specs.StateChecks.{stateRefusal, broken}
 use Rattle.reconstructor.specs.Applied.{appliedTo, applied}
 use Rattle.reconstructor_handshake.specs.declared.StepAnswer.{StepAnswer}
 use Rattle.reconstructor_handshake.specs.declared.StepAnswer.the-variants.{Stepped, OtherSegment}
-use Rattle.reconstructor_handshake.specs.Step.{otherSegment, drops, with, after, decided, dropped, stepRefusal, unlessRefused, StepWorked, putBack, steppedTo, stepped}
+use Rattle.reconstructor_handshake.specs.Step.{otherSegment, drops, with, after, byApply, dropped, stepRefusal, unlessRefused, StepWorked, putBack, steppedTo, stepped}
 use Rattle.host_records.specs.Records.{recordsOf, relaid}
 use Rattle.reconstructor_answers.specs.Numbers.{answerNumber}
 use Rattle.host_words.specs.Block.{stateWords, bookOf, messageOf, restored, raised}
@@ -35,7 +35,7 @@ use Rattle.host_message_tests.specs.MessageTests.{noMessage}
 use Rattle.host_boundary.specs.Boundary.{unlessTurned}
 use Rattle.host_boundary.proofs.Passed.{Passed, passes, by-boundary}
 use Rattle.host_handshake.specs.HandshakeWords.{handshakeOf, handshakeLeft, stepSets}
-use Rattle.host_calls.specs.Calls.{Call, StepCall, stepCalled, afterStep, stepCall}
+use Rattle.host_calls.specs.Calls.{BookCall, StepCall, stepCalled, afterStep, stepCall}
 use Rattle.laws.proofs.Bools.{absurd-bool, or-no}
 use Rattle.host_words.proofs.Blocks.{block-same, raised-dropped}
 use Rattle.host_words.proofs.RoundTrip.{block-back}
@@ -80,7 +80,7 @@ module _ (top : ℕ) (st ws sg hs : List ℕ) (m : L3Message) (long : stateWords
   abbrev worked : Option StepAnswer → Bool → StepWorked
   worked o d =
       unlessRefused o
-      (cond d (dropped (handshakeOf hs) (bookOf st) (memory ws) last) (decided (handshakeOf hs) (appliedTo top (bookOf st) (memory ws) (length (recordsOf sg)) last m)))
+      (cond d (dropped (handshakeOf hs) (bookOf st) (memory ws) last) (byApply (handshakeOf hs) (appliedTo top (bookOf st) (memory ws) (length (recordsOf sg)) last m)))
       (handshakeOf hs)
       (bookOf st)
       (memory ws)
@@ -105,7 +105,7 @@ module _ (top : ℕ) (st ws sg hs : List ℕ) (m : L3Message) (long : stateWords
   left-refused none false false false h =
       let a = applied top (bookOf st) (memory ws) (recordsOf sg) m .answer in
       let refused = or-no (acts (answerNumber a)) (eqb (answerNumber a) 512) h .0 in
-      ap (λ (c : Call). stepCalled (c .number) (c .state) (c .rows) (c .segments) (handshakeLeft hs (after (handshakeOf hs) a))) (applied-words st ws sg m long top refused) ∙
+      ap (λ (c : BookCall). stepCalled (c .number) (c .state) (c .rows) (c .segments) (handshakeLeft hs (after (handshakeOf hs) a))) (applied-words st ws sg m long top refused) ∙
       ap (stepCalled (answerNumber a) (refusedState (answerNumber a) st) ws sg) (after-words hs a full bit refused)
 
   left-dropped : (o : Option StateError) (x y d : Bool) → eqb (left (gate o x y) d .number) 512 ≡ true → left (gate o x y) d ≡ stepCalled 512 (raised st 23) ws sg hs

@@ -21,22 +21,22 @@ use Rattle.host_answers.specs.Answers.{Answered, answered}
 use Rattle.host_handshake.specs.HandshakeWords.{handshakeWords, handshakeOf, handshakeLeft, stepSets}
 
 -- the answer, and the lent words afterwards
-pub record Call : Type 0 where
+pub record BookCall : Type 0 where
   pub number : ℕ
   pub state : List ℕ
   pub rows : List ℕ
   pub segments : List ℕ
 
-abbrev pub called : ℕ → List ℕ → List ℕ → List ℕ → Call
+abbrev pub called : ℕ → List ℕ → List ℕ → List ℕ → BookCall
 called k st ws sg = record { number = k; state = st; rows = ws; segments = sg }
 
 -- what the rules leave, written back
-abbrev pub afterApply : List ℕ → List ℕ → Parts → Call
+abbrev pub afterApply : List ℕ → List ℕ → Parts → BookCall
 afterApply st sg p =
     called (answerTold (p .answer) .number) (restored st (setsStatus (p .answer)) (p .book)) (p .memory .rows) (relaid sg (p .segments))
 
 -- 0 is the one answer that sets the status
-abbrev pub afterBootstrap : List ℕ → List ℕ → SnapshotParts → Call
+abbrev pub afterBootstrap : List ℕ → List ℕ → SnapshotParts → BookCall
 afterBootstrap st sg p =
     called (snapshotTold (p .answer) .number) (restored st (eqb (snapshotTold (p .answer) .number) 0) (p .book)) (p .memory .rows) (relaid sg (p .segments))
 
@@ -44,12 +44,12 @@ afterBootstrap st sg p =
 abbrev pub callBoundary : List ℕ → List ℕ → List ℕ → Bool → Bool → ℕ
 callBoundary st ws sg short wrong = boundary st (extentOf (memory ws)) (ltb (recordsIn sg) (getD st 14 0)) short wrong
 
-unfoldable pub applyCall : List ℕ → List ℕ → List ℕ → List ℕ → Call
+unfoldable pub applyCall : List ℕ → List ℕ → List ℕ → List ℕ → BookCall
 applyCall st ws sg m =
     unlessTurned (callBoundary st ws sg (ltb (length m) messageWords) (noMessage m)) (λ (k : ℕ). called k st ws sg)
     (afterApply st sg (applied ceiling (bookOf st) (memory ws) (recordsOf sg) (messageOf m)))
 
-unfoldable pub bootstrapCall : List ℕ → List ℕ → List ℕ → List ℕ → Call
+unfoldable pub bootstrapCall : List ℕ → List ℕ → List ℕ → List ℕ → BookCall
 bootstrapCall st ws sg bytes =
     unlessTurned (callBoundary st ws sg false false) (λ (k : ℕ). called k st ws sg)
     (afterBootstrap st sg (bootstrapped ceiling (bookOf st) (memory ws) (recordsOf sg) bytes))

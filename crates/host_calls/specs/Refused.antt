@@ -7,7 +7,7 @@ use lib.Dec.{eqb, ltb}
 use Rattle.reconstructor_handshake.specs.Step.{with}
 use Rattle.host_words.specs.Block.{raised}
 use Rattle.host_handshake.specs.HandshakeWords.{handshakeOf, handshakeLeft}
-use Rattle.host_calls.specs.Calls.{Call, called, StepCall, stepCalled}
+use Rattle.host_calls.specs.Calls.{BookCall, called, StepCall, stepCalled}
 
 -- of a message, a number is a refusal's unless it is 0, 256 or 16
 abbrev pub acts : ℕ → Bool
@@ -17,11 +17,11 @@ acts k = eqb k 0 || (eqb k 256 || eqb k 16)
 abbrev pub refusedState : ℕ → List ℕ → List ℕ
 refusedState k st = cond (eqb k 10) (raised st 25) (cond (eqb k 17) (raised st 24) st)
 
-abbrev pub refusalLeaves : ℕ → List ℕ → List ℕ → List ℕ → Call
+abbrev pub refusalLeaves : ℕ → List ℕ → List ℕ → List ℕ → BookCall
 refusalLeaves k st ws sg = called k (refusedState k st) ws sg
 
 -- of a snapshot, any number but 0 is a refusal's, and 10 to 14 raise the count in word 26
-abbrev pub snapshotLeaves : ℕ → List ℕ → List ℕ → List ℕ → Call
+abbrev pub snapshotLeaves : ℕ → List ℕ → List ℕ → List ℕ → BookCall
 snapshotLeaves k st ws sg = called k (cond (ltb k 10 || ltb 14 k) st (raised st 26)) ws sg
 
 -- of a step, 512, a drop, is no refusal either

@@ -1,9 +1,9 @@
 // The queue estimate of a book whose state is words, as `host` exports it. specs/Estimates.antt defines the other exported estimates too (`host_estimates_own`, `host_ahead`).
 use host_answers::unwritten;
 use host_boundary::boundary;
-use host_word_tests::no_bit;
 use host_estimate_words::ESTIMATE_WORDS;
 use host_estimate_words::store_estimate;
+use host_word_tests::no_bit;
 use host_words::load_book;
 use host_words::load_side;
 use host_words::signed;

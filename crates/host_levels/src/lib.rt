@@ -22,7 +22,13 @@ pub fn priority_profile(
         return stop;
     }
     let book = load_book(state);
-    let answer = reconstructor_reads_levels::priority_profile(book, rows, scratch, load_side(side), out);
+    let answer = reconstructor_reads_levels::priority_profile(
+        book,
+        rows,
+        scratch,
+        load_side(side),
+        out,
+    );
     store_level(count, answer)
 }
 

@@ -17,13 +17,13 @@ use Rattle.host_calls.specs.Calls.{callBoundary}
 use Rattle.host_replay_run.specs.Run.{run, ReplayCall, replayCalled, countOf, afterRun}
 
 -- 1, 2 or 3, which every message would be told that is one: nothing is touched
-abbrev pub replaySettled : Option StateError → List ℕ → List ℕ → List ℕ → List ℕ → List ℕ → ReplayCall
-replaySettled (some e) st ws sg ms out = replayCalled (stateErrorNumber e) st ws sg out
+abbrev pub replayChecked : Option StateError → List ℕ → List ℕ → List ℕ → List ℕ → List ℕ → ReplayCall
+replayChecked (some e) st ws sg ms out = replayCalled (stateErrorNumber e) st ws sg out
 -- then 7: fewer answer words than messages
-replaySettled none st ws sg ms out =
+replayChecked none st ws sg ms out =
     cond (ltb (length out) (countOf ms)) (replayCalled 7 st ws sg out) (afterRun out (run (countOf ms) st ws sg ms))
 
 unfoldable pub replayCall : List ℕ → List ℕ → List ℕ → List ℕ → List ℕ → ReplayCall
 replayCall st ws sg ms out =
     unlessTurned (callBoundary st ws sg false false) (λ (k : ℕ). replayCalled k st ws sg out)
-    (replaySettled (bookRefusal ceiling (bookOf st) (memory ws) (recordsIn sg)) st ws sg ms out)
+    (replayChecked (bookRefusal ceiling (bookOf st) (memory ws) (recordsIn sg)) st ws sg ms out)

@@ -18,7 +18,7 @@ use Rattle.reconstructor_checks.specs.StateChecks.{Usable}
 use Rattle.host_records.specs.Records.{recordsIn}
 use Rattle.host_words.specs.Block.{stateWords, bookOf}
 use Rattle.host_word_tests.specs.WordTests.{noBook}
-use Rattle.host_calls.specs.Calls.{Call, called, applyCall}
+use Rattle.host_calls.specs.Calls.{BookCall, called, applyCall}
 use Rattle.reconstructor_checks.proofs.StateChecks.{usable, sound}
 use Rattle.host_replay_message.specs.Runs.{Runs}
 use Rattle.host_replay_run.specs.Run.{Run, then, run, ReplayCall, replayCalled, countOf, afterRun}
@@ -61,7 +61,7 @@ module _ (st ws sg ms out : List ℕ) (count i k : ℕ) (ut vs tg : List ℕ) wh
       let d : drop 21 (drop (21 * i) ms) ≡ drop (21 * (i + 1)) ms =
       drop-drop 21 (21 * i) ms ∙ ap (λ (x : ℕ). drop x ms) (let z : 21 * i + 21 ≡ 21 * (i + 1) = omega arith in z) in
       rw (c, ← d)
-      (ap (λ (x : Call). left i out (then (x .number) (run (count - (i + 1)) (x .state) (x .rows) (x .segments) (drop 21 (drop (21 * i) ms))))) (sym e)
+      (ap (λ (x : BookCall). left i out (then (x .number) (run (count - (i + 1)) (x .state) (x .rows) (x .segments) (drop 21 (drop (21 * i) ms))))) (sym e)
       ∙ left-then i out k (run (count - (i + 1)) ut vs tg (drop 21 (drop (21 * i) ms))) q)
 
   pub left-last : count ≤ i → left i out (run (count - i) st ws sg (drop (21 * i) ms)) ≡ replayCalled 0 st ws sg out

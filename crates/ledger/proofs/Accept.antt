@@ -20,20 +20,20 @@ use Rattle.reconstructor_bootstrap.specs.declared.SnapshotAnswer.{SnapshotAnswe
 use Rattle.reconstructor_bootstrap.specs.Snapshot.{snapshotLine}
 use Rattle.reconstructor_handshake.specs.declared.Handshake.{Handshake}
 use Rattle.reconstructor_handshake.specs.declared.StepAnswer.{StepAnswer}
-use Rattle.ledger.specs.Ledger.{Config, Call, bootstrap, apply, step, read, Figure, Ledger, Outcome, refused, invalidates, dropped, accepted, settle, applyOutcome, stepSettle, stepOutcome, viewBy, figureBy, viewBoot, figureBoot, bootOutcome, feedView, feedFigure, feed, feedAll, fresh}
+use Rattle.ledger.specs.Ledger.{Config, Call, bootstrap, apply, step, read, Figure, Ledger, Outcome, refused, invalidates, dropped, accepted, outcomeOf, applyOutcome, stepOutcomeOf, stepOutcome, viewBy, figureBy, viewBoot, figureBoot, bootOutcome, feedView, feedFigure, feed, feedAll, fresh}
 use Rattle.ledger.proofs.Volumes.{Tallies, event-tallies, tallied-tallies}
 
 absurd-path : {B : Type 0} → _≡_ {A = ℕ} 0 1 → B
 absurd-path z = absurd (omega arith)
 
-pub settled : (g : Option ApplyAnswer) (t : Option InvalidationKind) → settle g t ≡ accepted → (g ≡ none) × (t ≡ none)
-unfolding settle
+pub settled : (g : Option ApplyAnswer) (t : Option InvalidationKind) → outcomeOf g t ≡ accepted → (g ≡ none) × (t ≡ none)
+unfolding outcomeOf
 settled (some n) t h = absurd-path cc
 settled none (some n) h = absurd-path cc
 settled none none h = (refl, refl)
 
-pub step-settled : (g : Option StepAnswer) (d : Bool) (o : Outcome) → stepSettle g d o ≡ accepted → (g ≡ none) × (d ≡ false) × (o ≡ accepted)
-unfolding stepSettle
+pub step-settled : (g : Option StepAnswer) (d : Bool) (o : Outcome) → stepOutcomeOf g d o ≡ accepted → (g ≡ none) × (d ≡ false) × (o ≡ accepted)
+unfolding stepOutcomeOf
 step-settled (some n) d o h = absurd-path cc
 step-settled none true o h = absurd-path cc
 step-settled none false o h = (refl, refl, h)

@@ -27,7 +27,7 @@ use Rattle.reconstructor_state.proofs.Checks.{fails, goes-on, first-fails, firs
 use Rattle.reconstructor_checks.specs.StateChecks.{Usable, overCeiling, tooShort}
 use Rattle.reconstructor_plan.specs.Rules.{eventDeed}
 use Rattle.reconstructor.specs.Refusals.{gateRefusal, turnRefusal}
-use Rattle.reconstructor.specs.Applied.{refusedReply, invalidatedReply, acceptedReply, accepted as acceptedCore, decided, answered, bookGate, appliedTo, applied}
+use Rattle.reconstructor.specs.Applied.{refusedReply, invalidatedReply, acceptedReply, accepted as acceptedCore, decided, afterGate, bookGate, appliedTo, applied}
 use Rattle.reconstructor.proofs.Laws.{gate-trusted}
 use Rattle.reconstructor_bootstrap.specs.declared.SnapshotAnswer.{SnapshotAnswer}
 use Rattle.reconstructor_bootstrap.specs.declared.SnapshotAnswer.the-variants as snapshots
@@ -102,8 +102,8 @@ counted-up a (some p) k e = ap (λ (z : MessageCounts). counted z p) e ∙ count
 
 -- ---- a call by value, lent enough
 
-refused-counted : (b : BookReconstructor) (mem : Memory) (g : Segment) (m : L3Message) (a : ApplyAnswer) → answered b mem g m (some a) .book .counts ≡ countedBy (answerPlace a) (b .counts)
-unfolding answered refusedReply
+refused-counted : (b : BookReconstructor) (mem : Memory) (g : Segment) (m : L3Message) (a : ApplyAnswer) → afterGate b mem g m (some a) .book .counts ≡ countedBy (answerPlace a) (b .counts)
+unfolding afterGate refusedReply
 refused-counted b mem g m (answers.Applied a) = refl
 refused-counted b mem g m (answers.Unusable e) = refl
 refused-counted b mem g m answers.AmountOutOfRange = refl
@@ -119,9 +119,9 @@ decided-counted b mem m (some k) = refl
 decided-counted b mem m none = refl
 
 answered-counted : (b : BookReconstructor) (mem : Memory) (g : Segment) (m : L3Message) (o : Option ApplyAnswer)
-    → answered b mem g m o .book .counts
+    → afterGate b mem g m o .book .counts
     ≡ countedBy (messagePlace (b .rules) (lineIn mem (b .rows)) (m .event) o (turnRefusal (b .rules) (lineIn mem (b .rows)) (lastOf (b .status)) m)) (b .counts)
-unfolding answered
+unfolding afterGate
 answered-counted b mem g m (some a) = refused-counted b mem g m a
 answered-counted b mem g m none = decided-counted b mem m (turnRefusal (b .rules) (lineIn mem (b .rows)) (lastOf (b .status)) m)
 

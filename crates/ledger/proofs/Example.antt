@@ -30,7 +30,7 @@ use Rattle.reconstructor_state.specs.State.{ceiling, Lengths, limitedRules}
 use Rattle.reconstructor_checks.specs.StateChecks.{broken, stateRefusal}
 use Rattle.reconstructor_plan.specs.Rules.{openRefusal, makerRefusal, eventRefusal, effect, counterOf, eventDeed}
 use Rattle.reconstructor.specs.Refusals.{admitRefusal, gateRefusal, turnRefusal}
-use Rattle.reconstructor.specs.Applied.{refusedReply, invalidatedReply, acceptedReply, accepted as acceptedCore, decided, answered, appliedTo, applied}
+use Rattle.reconstructor.specs.Applied.{refusedReply, invalidatedReply, acceptedReply, accepted as acceptedCore, decided, afterGate, appliedTo, applied}
 use Rattle.reconstructor_bootstrap.specs.Snapshot.{lineRefusal, snapshotRefusal, acceptRefusal, bootRefusal}
 use Rattle.reconstructor_bootstrap.specs.Bootstrap.{bootstrappedTo, bootstrapped, closed}
 use Rattle.reconstructor_handshake.specs.declared.Handshake.{Handshake}
@@ -39,7 +39,7 @@ use Rattle.reconstructor_view.specs.ValueReads.{viewRefusal, readRefusal}
 use Rattle.reconstructor_reads.specs.declared.Shown.the-variants.{Entries}
 use Rattle.reconstructor_reads.specs.declared.LevelAnswer.the-variants as levels
 use Rattle.reconstructor_reads.specs.LevelReads.{shown, levelRead, levelQueue, staleRead, staleL2}
-use Rattle.ledger.specs.Ledger.{Config, Call, bootstrap, apply, step, read, levelQueue as askQueue, fresh, settle, applyOutcome, stepSettle, stepOutcome, tally, feedView, feedFigure, feedAll}
+use Rattle.ledger.specs.Ledger.{Config, Call, bootstrap, apply, step, read, levelQueue as askQueue, fresh, outcomeOf, applyOutcome, stepOutcomeOf, stepOutcome, tally, feedView, feedFigure, feedAll}
 use Rattle.ledger.specs.World.{perform, run, lentMemory, Lendable, freshWorld, volumeAt}
 use Rattle.ledger.specs.Kept.{keptAfter, kept}
 use Rattle.ledger.specs.Sum.{standingAt, valid, invalid, SumRule}
@@ -147,7 +147,7 @@ fits : Lendable (extentOf words) 2 (before ++ (after ++ recovered))
 fits = ((omega arith, omega arith), ((omega arith, omega arith), ((omega arith, omega arith), ((omega arith, omega arith), ((omega arith, omega arith), ((omega arith, omega arith), ((omega arith, omega arith), ((omega arith, omega arith), ((omega arith, omega arith), ((omega arith, omega arith), tt))))))))))
 
 pub worked : Worked
-unfolding perform applied appliedTo stepped steppedTo unlessRefused stepRefusal bootstrapped bootstrappedTo answered decided acceptedCore acceptedReply invalidatedReply refusedReply turnRefusal gateRefusal admitRefusal stateRefusal broken eventDeed counterOf effect eventRefusal makerRefusal openRefusal check first saturated rowsFrom stored sideOf rowBroken inRange optionalInRange eventInRange differs givenDiffers absentOrDiffers sameId sameProduct closed bootRefusal acceptRefusal snapshotRefusal lineRefusal readSnapshot snapshotShaped snapshotOf bidsAt asksAt ordersFrom orderAt orderFrom amountAt wordAt orderIdAt productIdAt part little big littleBytes bigBytes orderInRange ordersInRange viewRefusal readRefusal levelRead staleRead shown feedView feedFigure tally applyOutcome settle stepOutcome stepSettle keptAfter
+unfolding perform applied appliedTo stepped steppedTo unlessRefused stepRefusal bootstrapped bootstrappedTo afterGate decided acceptedCore acceptedReply invalidatedReply refusedReply turnRefusal gateRefusal admitRefusal stateRefusal broken eventDeed counterOf effect eventRefusal makerRefusal openRefusal check first saturated rowsFrom stored sideOf rowBroken inRange optionalInRange eventInRange differs givenDiffers absentOrDiffers sameId sameProduct closed bootRefusal acceptRefusal snapshotRefusal lineRefusal readSnapshot snapshotShaped snapshotOf bidsAt asksAt ordersFrom orderAt orderFrom amountAt wordAt orderIdAt productIdAt part little big littleBytes bigBytes orderInRange ordersInRange viewRefusal readRefusal levelRead staleRead shown feedView feedFigure tally applyOutcome outcomeOf stepOutcome stepOutcomeOf keptAfter
 worked =
     record {
       lendable = fits;

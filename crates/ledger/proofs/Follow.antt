@@ -40,7 +40,7 @@ use Rattle.reconstructor_bootstrap.proofs.Laws.{refusalOf, refused-is}
 use Rattle.reconstructor_handshake.specs.declared.Handshake.{Handshake}
 use Rattle.reconstructor_handshake.specs.Step.{stepRefusal, stepped}
 use Rattle.reconstructor_handshake.proofs.Step.{unusable-step}
-use Rattle.ledger.specs.Ledger.{Config, Call, bootstrap, apply, step, read, blank, refused, settle, applyOutcome, stepSettle, stepOutcome, bootOutcome, viewBy, viewBoot, feedView}
+use Rattle.ledger.specs.Ledger.{Config, Call, bootstrap, apply, step, read, blank, refused, outcomeOf, applyOutcome, stepOutcomeOf, stepOutcome, bootOutcome, viewBy, viewBoot, feedView}
 use Rattle.ledger.specs.World.{World, lentMemory, lentSegments, back, perform, run, Fits, Lendable, freshWorld, lineAt}
 use Rattle.ledger.proofs.Stands.{lengthsOf, seen, Starts, Stands, rows-front, apply-stands, step-stands, boot-stands}
 use Rattle.ledger.proofs.Left.{Left, apply-left, step-left, boot-left}
@@ -73,11 +73,11 @@ early top v n three k h = go (overCeiling top v) refl h
     go false p q = (LentTooShort, goes-on _ _ _ _ p (fails _ _ _ q), λ x. let z : _≡_ {A = ℕ} 0 1 = cc in omega (arith, z))
 
 pub early-apply : (top : ℕ) (c : Config) (n : Lengths) (w : View) (m : L3Message) → (overCeiling top (c .rules) || tooShort (c .rules) n (w .segments)) ≡ true → applyOutcome top c n false w m ≡ refused
-unfolding applyOutcome gateRefusal settle
+unfolding applyOutcome gateRefusal outcomeOf
 early-apply top c n w m h = let e = early top (c .rules) n false (w .segments) h in rw (first-fails _ _ _ _ (e .1))
 
 pub early-step : (top : ℕ) (c : Config) (n : Lengths) (w : View) (h : Handshake) (m : L3Message) → (overCeiling top (c .rules) || tooShort (c .rules) n (w .segments)) ≡ true → stepOutcome top c n false w h m ≡ refused
-unfolding stepOutcome stepRefusal stepSettle
+unfolding stepOutcome stepRefusal stepOutcomeOf
 early-step top c n w h m q = let e = early top (c .rules) n false (w .segments) q in rw (first-fails _ _ _ _ (e .1))
 
 pub early-boot : (top : ℕ) (c : Config) (n : Lengths) (w : View) (bytes : List ℕ) → (overCeiling top (c .rules) || tooShort (c .rules) n (w .segments)) ≡ true

@@ -23,7 +23,7 @@ use Rattle.reconstructor_checks.specs.StateChecks.{Usable, broken}
 use Rattle.reconstructor_checks.proofs.StateChecks.{sound, rows-lent, segments-lent}
 use Rattle.reconstructor_plan.specs.Rules.{effect, eventDeed}
 use Rattle.reconstructor.specs.Refusals.{turnRefusal}
-use Rattle.reconstructor.specs.Applied.{refusedReply, invalidatedReply, acceptedReply, accepted as acceptedCore, decided, answered, bookGate, appliedTo, applied}
+use Rattle.reconstructor.specs.Applied.{refusedReply, invalidatedReply, acceptedReply, accepted as acceptedCore, decided, afterGate, bookGate, appliedTo, applied}
 use Rattle.reconstructor.proofs.Kept.{usable-kept}
 use Rattle.reconstructor_bootstrap.specs.declared.SnapshotAnswer.{SnapshotAnswer}
 use Rattle.reconstructor_bootstrap.specs.Snapshot.{snapshotLine}
@@ -63,8 +63,8 @@ module _ (top : ℕ) (b : BookReconstructor) (mem : Memory) (sg : List Segment) 
   same-rules (some k) = refl
   same-rules none = refl
 
-  sizes : (g : Segment) (o : Option ApplyAnswer) → broken (answered b mem g m o .book) (answered b mem g m o .memory) ≡ false → length (answered b mem g m o .memory .rows) ≡ length (mem .rows)
-  unfolding answered refusedReply
+  sizes : (g : Segment) (o : Option ApplyAnswer) → broken (afterGate b mem g m o .book) (afterGate b mem g m o .memory) ≡ false → length (afterGate b mem g m o .memory .rows) ≡ length (mem .rows)
+  unfolding afterGate refusedReply
   sizes g (some a) h = refl
   sizes g none h =
       let t : Option InvalidationKind = turnRefusal (b .rules) (lineIn mem (b .rows)) (lastOf (b .status)) m in

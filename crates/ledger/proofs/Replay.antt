@@ -26,7 +26,7 @@ use Rattle.reconstructor_plan.specs.Rules.{effect}
 use Rattle.reconstructor.specs.Refusals.{statusRefusal, admitRefusal, gateRefusal, turnRefusal}
 use Rattle.reconstructor_bootstrap.specs.declared.SnapshotAnswer.{SnapshotAnswer}
 use Rattle.reconstructor_bootstrap.specs.Snapshot.{acceptRefusal, pieceRefusal, bootRefusal}
-use Rattle.ledger.specs.Ledger.{Config, Call, bootstrap, apply, step, read, blank, Outcome, refused, invalidates, dropped, accepted, settle, applyOutcome, bootOutcome, viewBy, viewBoot, snapView, feedView}
+use Rattle.ledger.specs.Ledger.{Config, Call, bootstrap, apply, step, read, blank, Outcome, refused, invalidates, dropped, accepted, outcomeOf, applyOutcome, bootOutcome, viewBy, viewBoot, snapView, feedView}
 use Rattle.ledger.specs.Kept.{keptBy, keptBoot, keptAfter, keptAll, kept}
 use Rattle.ledger.specs.Sum.{numbered}
 use Rattle.ledger.proofs.Accept.{in-turn, step-applies}
@@ -63,7 +63,7 @@ listed-most top r n s q =
 
 outcome : (top : ℕ) (c : Config) (n : Lengths) (w : View) (m : L3Message) → gateRefusal top (c .product) (c .rules) n false w m ≡ none
     → turnRefusal (c .rules) (w .line) (lastOf (w .status)) m ≡ none → applyOutcome top c n false w m ≡ accepted
-unfolding applyOutcome settle
+unfolding applyOutcome outcomeOf
 outcome top c n w m p q = rw (p, q)
 
 pub admit-status : (p : ProductId) (s : Status) (m : L3Message) → admitRefusal p s m ≡ none → statusRefusal s ≡ none

@@ -23,7 +23,7 @@ use Rattle.reconstructor.specs.Refusals.{statusRefusal, gateRefusal}
 use Rattle.reconstructor_bootstrap.specs.declared.SnapshotAnswer.{SnapshotAnswer}
 use Rattle.reconstructor_handshake.specs.declared.Handshake.{Handshake}
 use Rattle.reconstructor_handshake.specs.declared.StepAnswer.{StepAnswer}
-use Rattle.ledger.specs.Ledger.{Config, Call, bootstrap, apply, step, read, blank, Outcome, refused, invalidates, dropped, accepted, settle, applyOutcome, stepSettle, stepOutcome, bootOutcome, viewBy, viewBoot, feedView}
+use Rattle.ledger.specs.Ledger.{Config, Call, bootstrap, apply, step, read, blank, Outcome, refused, invalidates, dropped, accepted, outcomeOf, applyOutcome, stepOutcomeOf, stepOutcome, bootOutcome, viewBy, viewBoot, feedView}
 use Rattle.ledger.specs.Kept.{keptBy, keptBoot, keptAfter, keptAll, kept}
 use Rattle.ledger.specs.Sum.{valid, invalid, standingOf}
 use Rattle.ledger.proofs.Follow.{viewAll}
@@ -36,13 +36,13 @@ touches (invalidates k) = Unit {0}
 touches dropped = ⊥
 touches accepted = Unit {0}
 
-touched : (g : Option ApplyAnswer) (t : Option InvalidationKind) → touches (settle g t) → g ≡ none
-unfolding settle
+touched : (g : Option ApplyAnswer) (t : Option InvalidationKind) → touches (outcomeOf g t) → g ≡ none
+unfolding outcomeOf
 touched (some a) t h = absurd h
 touched none t h = refl
 
-through : (g : Option StepAnswer) (d : Bool) (o : Outcome) → touches (stepSettle g d o) → touches o
-unfolding stepSettle
+through : (g : Option StepAnswer) (d : Bool) (o : Outcome) → touches (stepOutcomeOf g d o) → touches o
+unfolding stepOutcomeOf
 through (some a) d o h = absurd h
 through none true o h = absurd h
 through none false o h = h

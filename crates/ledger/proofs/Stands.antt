@@ -33,7 +33,7 @@ use Rattle.reconstructor_state.proofs.Checks.{fails, goes-on, first-on}
 use Rattle.reconstructor_checks.specs.StateChecks.{Usable, broken, stateRefusal}
 use Rattle.reconstructor_checks.proofs.StateChecks.{usable-none}
 use Rattle.reconstructor.specs.Refusals.{gateRefusal, turnRefusal}
-use Rattle.reconstructor.specs.Applied.{refusedBook, refusedReply, invalidatedReply, acceptedReply, accepted as acceptedCore, nextSegment, decided, answered, bookGate, appliedTo, applied}
+use Rattle.reconstructor.specs.Applied.{refusedBook, refusedReply, invalidatedReply, acceptedReply, accepted as acceptedCore, nextSegment, decided, afterGate, bookGate, appliedTo, applied}
 use Rattle.reconstructor.proofs.Kept.{refusal-counts, usable-kept, accepted-line}
 use Rattle.reconstructor.proofs.Laws.{gate-trusted}
 use Rattle.message.specs.declared.L3Snapshot.{L3Snapshot}
@@ -50,7 +50,7 @@ use Rattle.reconstructor_bootstrap.proofs.Laws.{refusalOf, refused-is, counts-a
 use Rattle.reconstructor_handshake.specs.declared.Handshake.{Handshake}
 use Rattle.reconstructor_handshake.specs.Step.{StepParts, otherSegment, stepRefusal, drops, stepped}
 use Rattle.reconstructor_handshake.proofs.Step.{other-step, out-of-range-step, dropped-step, decided-step}
-use Rattle.ledger.specs.Ledger.{Config, Outcome, refused, invalidates, dropped, accepted, settle, applyOutcome, stepSettle, stepOutcome, bootOutcome, viewBy, viewBoot, snapView}
+use Rattle.ledger.specs.Ledger.{Config, Outcome, refused, invalidates, dropped, accepted, outcomeOf, applyOutcome, stepOutcomeOf, stepOutcome, bootOutcome, viewBy, viewBoot, snapView}
 
 -- what a state shows, and how much it is lent, with a list of records
 abbrev viewOf : BookReconstructor → Memory → List Segment → View
@@ -134,20 +134,20 @@ module _ (top : ℕ) (b : BookReconstructor) (mem : Memory) (sg : List Segment) 
 
   -- the ledger meets the same number
   outcome-same : applyOutcome top (configOf b) (lengthsOf mem sg) false (seen s b mem) m
-      ≡ settle gate (turnRefusal (b .rules) (lineIn mem (b .rows)) (lastOf (b .status)) m)
+      ≡ outcomeOf gate (turnRefusal (b .rules) (lineIn mem (b .rows)) (lastOf (b .status)) m)
   unfolding applyOutcome gateRefusal
   outcome-same =
-      ap (λ (o : Option ApplyAnswer). settle o (turnRefusal (b .rules) (lineIn mem (b .rows)) (lastOf (b .status)) m))
+      ap (λ (o : Option ApplyAnswer). outcomeOf o (turnRefusal (b .rules) (lineIn mem (b .rows)) (lastOf (b .status)) m))
       (first-on _ _ _ _ (own-none top b mem sg u) refl ∙ sym (gate-trusted top b mem (length sg) last m u))
 
   abbrev Facts : Option ApplyAnswer → Option InvalidationKind → Type 0
   Facts o t =
-      (configOf (answered b mem last m o .book) ≡ configOf b)
-      × (seen s (answered b mem last m o .book) (answered b mem last m o .memory) ≡ viewBy (b .rules) m (settle o t) (seen s b mem))
-      × Starts s (answered b mem last m o .book) (relast sg (b .segments) (answered b mem last m o .segment))
+      (configOf (afterGate b mem last m o .book) ≡ configOf b)
+      × (seen s (afterGate b mem last m o .book) (afterGate b mem last m o .memory) ≡ viewBy (b .rules) m (outcomeOf o t) (seen s b mem))
+      × Starts s (afterGate b mem last m o .book) (relast sg (b .segments) (afterGate b mem last m o .segment))
 
   refused-facts : (a : ApplyAnswer) (t : Option InvalidationKind) → Facts (some a) t
-  unfolding answered refusedReply settle
+  unfolding afterGate refusedReply outcomeOf
   refused-facts a t =
       let e : refusedBook b a ≡ withCounts b (refusedBook b a .counts) = refusal-counts b a in (
         ap configOf e,
@@ -158,14 +158,14 @@ module _ (top : ℕ) (b : BookReconstructor) (mem : Memory) (sg : List Segment) 
   abbrev Turns : Option InvalidationKind → Type 0
   Turns t =
       (configOf (decided b mem (lastOf (b .status)) m t .book) ≡ configOf b)
-      × (seen s (decided b mem (lastOf (b .status)) m t .book) (decided b mem (lastOf (b .status)) m t .memory) ≡ viewBy (b .rules) m (settle none t) (seen s b mem))
+      × (seen s (decided b mem (lastOf (b .status)) m t .book) (decided b mem (lastOf (b .status)) m t .memory) ≡ viewBy (b .rules) m (outcomeOf none t) (seen s b mem))
       × Starts s (decided b mem (lastOf (b .status)) m t .book) (relast sg (b .segments) (nextSegment last (decided b mem (lastOf (b .status)) m t .answer) (m .sequence) (m .«time_us»)))
 
   turn-start : (a : ApplyAnswer) → 0 < b .segments → lastSegment (relast sg (b .segments) (nextSegment last a (m .sequence) (m .«time_us»))) (b .segments) .«start_seq» ≡ s
   turn-start a p = relast-start sg (b .segments) _ (next-start last a (m .sequence) (m .«time_us»)) ∙ st p
 
   turn-facts : (t : Option InvalidationKind) → turnRefusal (b .rules) (lineIn mem (b .rows)) (lastOf (b .status)) m ≡ t → Turns t
-  unfolding decided settle invalidatedReply acceptedCore acceptedReply
+  unfolding decided outcomeOf invalidatedReply acceptedCore acceptedReply
   turn-facts (some k) q = (refl, refl, turn-start (decided b mem (lastOf (b .status)) m (some k) .answer))
   turn-facts none q = (
     refl,
@@ -174,7 +174,7 @@ module _ (top : ℕ) (b : BookReconstructor) (mem : Memory) (sg : List Segment) 
   )
 
   gate-facts : (o : Option ApplyAnswer) → Facts o (turnRefusal (b .rules) (lineIn mem (b .rows)) (lastOf (b .status)) m)
-  unfolding answered
+  unfolding afterGate
   gate-facts (some a) = refused-facts a _
   gate-facts none = turn-facts (turnRefusal (b .rules) (lineIn mem (b .rows)) (lastOf (b .status)) m) refl
 
@@ -182,7 +182,7 @@ module _ (top : ℕ) (b : BookReconstructor) (mem : Memory) (sg : List Segment) 
       (viewBy (b .rules) m (applyOutcome top (configOf b) (lengthsOf mem sg) false (seen s b mem) m) (seen s b mem))
   unfolding applied appliedTo
   apply-stands =
-      let o : Outcome = settle gate (turnRefusal (b .rules) (lineIn mem (b .rows)) (lastOf (b .status)) m) in
+      let o : Outcome = outcomeOf gate (turnRefusal (b .rules) (lineIn mem (b .rows)) (lastOf (b .status)) m) in
       let f = gate-facts gate in
       rw outcome-same
       (stands-at (configOf b) _ _ _ (viewBy (b .rules) m o (seen s b mem)) s (start-kept (b .rules) m o (seen s b mem)) (f .0) (f .1) (f .2) (usable-kept top b mem (length sg) u last m .sound))
@@ -202,12 +202,12 @@ module _ (top : ℕ) (b : BookReconstructor) (mem : Memory) (sg : List Segment) 
 
   module _ (p : otherSegment h (segmentOf b) (b .segments) ≡ true) where
     other-outcome : outcome ≡ refused
-    unfolding stepOutcome stepRefusal stepSettle
+    unfolding stepOutcome stepRefusal stepOutcomeOf
     other-outcome = rw (first-on _ _ _ _ (own-none top b mem sg u) (fails _ _ _ p))
 
   module _ (p : otherSegment h (segmentOf b) (b .segments) ≡ false) where
     range-outcome : not (eventInRange (m .event)) ≡ true → outcome ≡ refused
-    unfolding stepOutcome stepRefusal stepSettle
+    unfolding stepOutcome stepRefusal stepOutcomeOf
     range-outcome q = rw (first-on _ _ _ _ (own-none top b mem sg u) (goes-on _ _ _ _ p (fails _ _ _ q)))
 
     pub same-start : lastSegment sg (b .segments) .«start_seq» ≡ s
@@ -218,7 +218,7 @@ module _ (top : ℕ) (b : BookReconstructor) (mem : Memory) (sg : List Segment) 
 
     module _ (q : not (eventInRange (m .event)) ≡ false) where
       through : outcome ≡ cond (drops (b .«product_id») s m) dropped (applyOutcome top (configOf b) (lengthsOf mem sg) false (seen s b mem) m)
-      unfolding stepOutcome stepRefusal stepSettle
+      unfolding stepOutcome stepRefusal stepOutcomeOf
       through = rw (first-on _ _ _ _ (own-none top b mem sg u) (goes-on _ _ _ _ p (goes-on _ _ _ _ q refl)))
 
   pub step-stands : StepStands outcome (stepped top h b mem sg m)

@@ -10,13 +10,14 @@ use Rattle.reconstructor_state.specs.State.{View}
 use Rattle.reconstructor_bootstrap.specs.declared.SnapshotAnswer.{SnapshotAnswer}
 use Rattle.ledger.specs.Ledger.{Config, Call, bootstrap, apply, step, read, blank, Outcome, refused, invalidates, dropped, accepted, applyOutcome, stepOutcome, bootOutcome, feedView}
 
-abbrev pub keptBy : Outcome → List Call → Call → List Call
+-- of calls by value, and of exported ones
+abbrev pub keptBy : {A : Type 0} → Outcome → List A → A → List A
 keptBy refused ks k = ks
 keptBy (invalidates i) ks k = ks
 keptBy dropped ks k = ks
 keptBy accepted ks k = ks ++ (k ∷ [])
 
-abbrev pub keptBoot : Option SnapshotAnswer → ReadSnapshot → List Call → Call → List Call
+abbrev pub keptBoot : {A : Type 0} → Option SnapshotAnswer → ReadSnapshot → List A → A → List A
 keptBoot (some a) s ks k = ks
 keptBoot none (pieces.Refused e) ks k = ks
 keptBoot none (pieces.Snapshot s) ks k = k ∷ []

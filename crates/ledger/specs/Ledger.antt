@@ -90,27 +90,27 @@ pub data Outcome : Type 0 where
   dropped : Outcome
   accepted : Outcome
 
-unfoldable pub settle : Option ApplyAnswer → Option InvalidationKind → Outcome
-settle (some a) t = refused
-settle none (some k) = invalidates k
-settle none none = accepted
+unfoldable pub outcomeOf : Option ApplyAnswer → Option InvalidationKind → Outcome
+outcomeOf (some a) t = refused
+outcomeOf none (some k) = invalidates k
+outcomeOf none none = accepted
 
 -- "A snapshot or message is accepted if, worked in the order above, it meets no number and isn't dropped"; `three` is false here,
 -- and `top`, the ceiling of the limits, is an argument of all that goes by it
 unfoldable pub applyOutcome : ℕ → Config → Lengths → Bool → View → L3Message → Outcome
 applyOutcome top c n three w m =
-    settle (gateRefusal top (c .product) (c .rules) n three w m) (turnRefusal (c .rules) (w .line) (lastOf (w .status)) m)
+    outcomeOf (gateRefusal top (c .product) (c .rules) n three w m) (turnRefusal (c .rules) (w .line) (lastOf (w .status)) m)
 
-unfoldable pub stepSettle : Option StepAnswer → Bool → Outcome → Outcome
-stepSettle (some a) d o = refused
-stepSettle none d o = cond d dropped o
+unfoldable pub stepOutcomeOf : Option StepAnswer → Bool → Outcome → Outcome
+stepOutcomeOf (some a) d o = refused
+stepOutcomeOf none d o = cond d dropped o
 
 abbrev pub nameOf : Config → View → SegmentName
 nameOf c w = record { number = c .number; place = w .segments - 1 }
 
 unfoldable pub stepOutcome : ℕ → Config → Lengths → Bool → View → Handshake → L3Message → Outcome
 stepOutcome top c n three w h m =
-    stepSettle (stepRefusal top (c .rules) n three w (nameOf c w) h m) (drops (c .product) (w .startSeq) m) (applyOutcome top c n three w m)
+    stepOutcomeOf (stepRefusal top (c .rules) n three w (nameOf c w) h m) (drops (c .product) (w .startSeq) m) (applyOutcome top c n three w m)
 
 -- ---- the figures
 

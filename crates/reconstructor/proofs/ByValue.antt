@@ -11,7 +11,7 @@ use Rattle.reconstructor_segments.specs.Segments.{lastSegment}
 use Rattle.reconstructor_state.specs.declared.BookReconstructor.{BookReconstructor}
 use Rattle.reconstructor_checks.specs.StateChecks.{Usable}
 use Rattle.reconstructor.specs.declared.Reply.{Reply}
-use Rattle.reconstructor.specs.Applied.{Core, core, withRecord, nextSegment, answered, appliedTo, applied, putBack}
+use Rattle.reconstructor.specs.Applied.{Core, core, withRecord, nextSegment, afterGate, appliedTo, applied, putBack}
 use Rattle.reconstructor.specs.Inner.{trustedTo}
 use Rattle.reconstructor.proofs.Laws.{gate-trusted}
 
@@ -24,7 +24,7 @@ joins g h m r mem t e q = rw q (ap (λ (x : Core). withRecord x (nextSegment g (
 pub applied-trusted-to : (top : ℕ) (b : BookReconstructor) (mem : Memory) (lent : ℕ) (g : Segment) (m : L3Message) → Usable top b mem lent
     → appliedTo top b mem lent g m ≡ trustedTo b mem g m
 unfolding appliedTo
-applied-trusted-to top b mem lent g m u = ap (answered b mem g m) (gate-trusted top b mem lent g m u)
+applied-trusted-to top b mem lent g m u = ap (afterGate b mem g m) (gate-trusted top b mem lent g m u)
 
 module _ (b : BookReconstructor) (mem : Memory) (sg : List Segment) (m : L3Message) (top : ℕ) where
   pub applied-trusted : Usable top b mem (length sg) → applied top b mem sg m ≡ putBack sg (b .segments) (trustedTo b mem (lastSegment sg (b .segments)) m)

@@ -13,10 +13,11 @@ use lib.ListN.{length}
 use Rattle.reconstructor_segments.proofs.Last.{length-relast, relast-same}
 use Rattle.message.specs.declared.L3Message.{L3Message}
 use Rattle.message.specs.Values.{eventInRange}
+use Rattle.book.specs.Broken.{WellFormed}
 use Rattle.book.specs.declared.Resting.{Resting}
 use Rattle.book.specs.Line.{Entry}
 use Rattle.book.specs.Rows.{lineOf}
-use Rattle.book.specs.Memory.{Memory, Effect, ordersOf, lineIn, lineBy, ordersBy, changed}
+use Rattle.book.specs.Memory.{Memory, Effect, ordersOf, lineIn, lineBy, ordersBy, memoryBy}
 use Rattle.book_index.specs.declared.Bounds.{Bounds}
 use Rattle.book_index.specs.Index.{rowMarked, rowBounded, all, Indexed, Foreseen, noted}
 use Rattle.reconstructor_answers.specs.declared.Invalidation.{Invalidation}
@@ -33,8 +34,7 @@ use Rattle.reconstructor_state.specs.State.{with, withCounts, lastOf}
 use Rattle.reconstructor_checks.specs.StateChecks.{broken, Usable}
 use Rattle.reconstructor_plan.specs.Rules.{eventRefusal, eventDeed, effect}
 use Rattle.reconstructor.specs.Refusals.{admitRefusal, turnRefusal}
-use Rattle.reconstructor.specs.Applied.{refusedBook, refusedReply, invalidatedReply, acceptedReply, accepted, decided, atTurn, answered, bookGate, appliedTo, applied, Worked, Parts}
-use Rattle.book.proofs.Fits.{WellFormed}
+use Rattle.reconstructor.specs.Applied.{refusedBook, refusedReply, invalidatedReply, acceptedReply, accepted, decided, atTurn, afterGate, bookGate, appliedTo, applied, Worked, Parts}
 use Rattle.book.proofs.Memory.{line-by}
 use Rattle.book.proofs.Rows.{length-rows}
 use Rattle.book.proofs.Stored.{rows-stored, length-stored}
@@ -51,7 +51,7 @@ module _ (top : ℕ) (b : BookReconstructor) (mem : Memory) (sg : List Segment) 
   -- before its turn a message leaves every lent word, and of the state all but the counts
   pub refusal-leaves : (applied top b mem sg m .answer ≡ a) × (applied top b mem sg m .book ≡ refusedBook b a)
       × (applied top b mem sg m .memory ≡ mem) × (applied top b mem sg m .segments ≡ sg)
-  unfolding applied appliedTo answered refusedReply
+  unfolding applied appliedTo afterGate refusedReply
   refusal-leaves = rw h (refl, refl, refl, relast-same sg (b .segments))
 
 pub refusal-counts : (b : BookReconstructor) (a : ApplyAnswer) → refusedBook b a ≡ withCounts b (refusedBook b a .counts)
@@ -82,8 +82,8 @@ decided-stale b mem last m (some k) i h = refl
 decided-stale b mem last m none i h = let z : _≡_ {A = ℕ} 0 1 = cc in absurd (omega arith)
 
 answered-stale : (b : BookReconstructor) (mem : Memory) (g : Segment) (m : L3Message) (o : Option ApplyAnswer) (i : Invalidation)
-    → answered b mem g m o .answer ≡ answers.Invalidated i → answered b mem g m o .memory ≡ mem
-unfolding answered refusedReply
+    → afterGate b mem g m o .answer ≡ answers.Invalidated i → afterGate b mem g m o .memory ≡ mem
+unfolding afterGate refusedReply
 answered-stale b mem g m (some a) i h = refl
 answered-stale b mem g m none i h = decided-stale b mem (lastOf (b .status)) m (turnRefusal (b .rules) (lineIn mem (b .rows)) (lastOf (b .status)) m) i h
 
@@ -146,8 +146,8 @@ module _ (top : ℕ) (b : BookReconstructor) (mem : Memory) (lent : ℕ) (u : Us
         let r = rows-lent b mem lent (u .lent) in
         let f = sound b mem (u .sound) .few in
         let g = w .few in
-        usable-as _ _ _ (changed mem (b .rows) does) (length-stored (mem .rows) (b .rows) os (omega arith) (omega arith))
-        (kept (decided b mem (lastOf (b .status)) m none .book) (changed mem (b .rows) does) os (rows-stored (mem .rows) (b .rows) os) refl w settled-sound)
+        usable-as _ _ _ (memoryBy mem (b .rows) does) (length-stored (mem .rows) (b .rows) os (omega arith) (omega arith))
+        (kept (decided b mem (lastOf (b .status)) m none .book) (memoryBy mem (b .rows) does) os (rows-stored (mem .rows) (b .rows) os) refl w settled-sound)
 
     through : (o : Option InvalidationKind) → turnRefusal (b .rules) (lineIn mem (b .rows)) (lastOf (b .status)) m ≡ o → Leaves o
     through (some k) q = stale k
@@ -157,8 +157,8 @@ module _ (top : ℕ) (b : BookReconstructor) (mem : Memory) (lent : ℕ) (u : Us
         (turn-event (b .rules) (lineIn mem (b .rows)) (lastOf (b .status)) m q))
 
   answered-usable : (g : Segment) (m : L3Message) (o : Option ApplyAnswer) → admitRefusal (b .«product_id») (b .status) m ≡ o
-      → Usable top (answered b mem g m o .book) (answered b mem g m o .memory) lent
-  unfolding answered refusedReply
+      → Usable top (afterGate b mem g m o .book) (afterGate b mem g m o .memory) lent
+  unfolding afterGate refusedReply
   answered-usable g m (some a) h = refused-usable a
   answered-usable g m none h = through m h (turnRefusal (b .rules) (lineIn mem (b .rows)) (lastOf (b .status)) m) refl
 
@@ -180,8 +180,8 @@ module _ (f : Resting → Bool) (b : BookReconstructor) (mem : Memory) (m : L3Me
   decided-all last (some k) = h
   decided-all last none = ap (all f) (rows-stored (mem .rows) (b .rows) (ordersBy (effect (b .rules) (lineIn mem (b .rows)) (m .sequence) (m .event)) (ordersOf mem (b .rows)))) ∙ q
 
-  answered-all : (g : Segment) (o : Option ApplyAnswer) → all f (ordersLeft (answered b mem g m o)) ≡ true
-  unfolding answered refusedReply
+  answered-all : (g : Segment) (o : Option ApplyAnswer) → all f (ordersLeft (afterGate b mem g m o)) ≡ true
+  unfolding afterGate refusedReply
   answered-all g (some a) = rw (refusal-counts b a) h
   answered-all g none = decided-all (lastOf (b .status)) (turnRefusal (b .rules) (lineIn mem (b .rows)) (lastOf (b .status)) m)
 

@@ -18,7 +18,7 @@ use Rattle.reconstructor_state.specs.declared.BookReconstructor.{BookReconstruc
 use Rattle.reconstructor_state.specs.State.{lastOf}
 use Rattle.reconstructor_segments.specs.declared.Segment.{Segment}
 use Rattle.reconstructor_checks.specs.StateChecks.{bookRefusal, Usable, Trusted}
-use Rattle.reconstructor_plan.specs.Plans.{Ready, Outcome}
+use Rattle.reconstructor_plan.specs.Plans.{Ready, PlanOutcome}
 use Rattle.reconstructor.specs.declared.Reply.{Reply}
 use Rattle.reconstructor.specs.Refusals.{statusRefusal, admitRefusal, gateRefusal}
 use Rattle.reconstructor.specs.Applied.{core, acceptedReply, bookGate}
@@ -28,7 +28,7 @@ use Rattle.reconstructor_checks.proofs.StateChecks.{sound, orders-within, memor
 
 -- ---- a plan committed
 
-pub commits : (b : BookReconstructor) (ws : List ℕ) (seq : ℕ) (o : Outcome) (r : Reply) (vs : List ℕ) (n : ℕ)
+pub commits : (b : BookReconstructor) (ws : List ℕ) (seq : ℕ) (o : PlanOutcome) (r : Reply) (vs : List ℕ) (n : ℕ)
     → r ≡ acceptedReply b seq n (o .counter) (o .answer) → n ≡ length (o .orders) → vs ≡ stored ws (b .rows) (o .orders)
     → core r (memory vs) ≡ committed b ws seq o
 unfolding committed

@@ -4,7 +4,7 @@ use mathlib.Core.List.{List}
 use mathlib.Core.Option.{Option, none, some}
 use lib.ListN.{length}
 use Rattle.message.specs.declared.L3Message.{L3Message}
-use Rattle.book.specs.Memory.{Memory, ordersOf, lineIn, ordersBy, changed}
+use Rattle.book.specs.Memory.{Memory, ordersOf, lineIn, ordersBy, memoryBy}
 use Rattle.reconstructor_answers.specs.declared.Applied.{Applied}
 use Rattle.reconstructor_counts.specs.declared.Counter.{Counter}
 use Rattle.reconstructor_counts.specs.declared.Counter.the-variants.{WrongProduct, SkippedWhileInvalid}
@@ -93,7 +93,7 @@ acceptedReply b seq n k a = record { answer = answers.Applied a; book = with b (
 
 unfoldable pub accepted : BookReconstructor → Memory → ℕ → Deed → Core
 accepted b mem seq d =
-    core (acceptedReply b seq (length (ordersBy (d .effect) (ordersOf mem (b .rows)))) (d .counter) (answerBy (d .effect))) (changed mem (b .rows) (d .effect))
+    core (acceptedReply b seq (length (ordersBy (d .effect) (ordersOf mem (b .rows)))) (d .counter) (answerBy (d .effect))) (memoryBy mem (b .rows) (d .effect))
 
 -- ---- the last segment's record
 
@@ -117,9 +117,9 @@ abbrev pub atTurn : BookReconstructor → Memory → ℕ → L3Message → Core
 atTurn b mem last m = decided b mem last m (turnRefusal (b .rules) (lineIn mem (b .rows)) last m)
 
 -- a message that is turned away before its turn, or let through
-unfoldable pub answered : BookReconstructor → Memory → Segment → L3Message → Option ApplyAnswer → Worked
-answered b mem g m (some a) = withRecord (core (refusedReply b a) mem) g
-answered b mem g m none =
+unfoldable pub afterGate : BookReconstructor → Memory → Segment → L3Message → Option ApplyAnswer → Worked
+afterGate b mem g m (some a) = withRecord (core (refusedReply b a) mem) g
+afterGate b mem g m none =
     withRecord (atTurn b mem (lastOf (b .status)) m) (nextSegment g (atTurn b mem (lastOf (b .status)) m .answer) (m .sequence) (m .«time_us»))
 
 -- any message, the last record being g, of a list of so many; the ceiling of the limits is an argument
@@ -127,7 +127,7 @@ abbrev pub bookGate : ℕ → BookReconstructor → Memory → ℕ → Segment �
 bookGate top b mem lent g m = gateRefusal top (b .«product_id») (b .rules) (lengthsWith mem lent) (broken b mem) (viewWith b mem g) m
 
 unfoldable pub appliedTo : ℕ → BookReconstructor → Memory → ℕ → Segment → L3Message → Worked
-appliedTo top b mem lent g m = answered b mem g m (bookGate top b mem lent g m)
+appliedTo top b mem lent g m = afterGate b mem g m (bookGate top b mem lent g m)
 
 -- on a lent list; before any snapshot there is no last record
 unfoldable pub applied : ℕ → BookReconstructor → Memory → List Segment → L3Message → Parts

@@ -7,7 +7,7 @@ use Rattle.piece.specs.declared.ReadSnapshot.{ReadSnapshot}
 use Rattle.piece.specs.declared.ReadSnapshot.the-variants.{Snapshot, Refused}
 use Rattle.piece.specs.Piece.{readSnapshot}
 use Rattle.book.specs.Line.{Entry}
-use Rattle.book.specs.Memory.{Memory, snapshot, changed}
+use Rattle.book.specs.Memory.{Memory, snapshot, memoryBy}
 use Rattle.reconstructor_state.specs.declared.Status.{Status}
 use Rattle.reconstructor_state.specs.declared.Status.the-variants.{Empty, Valid, Invalidated}
 use Rattle.reconstructor_state.specs.declared.BookReconstructor.{BookReconstructor}
@@ -103,7 +103,7 @@ accepted b mem g sequence line =
     record {
       answer = Bootstrapped;
       book = bootedBook b sequence (length line);
-      memory = changed mem (b .rows) (snapshot sequence line);
+      memory = memoryBy mem (b .rows) (snapshot sequence line);
       segment = closed (b .status) g;
       at = b .segments;
       started = started sequence;

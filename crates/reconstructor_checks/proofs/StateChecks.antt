@@ -12,7 +12,7 @@ use lib.ListN.{length}
 use Rattle.book.specs.declared.Resting.{Resting}
 use Rattle.book.specs.Rows.{rowWords, mostRows, rowsOf, Lent}
 use Rattle.book.specs.Memory.{Memory, extentOf, ordersOf}
-use Rattle.book.specs.Broken.{rowsBroken, wordsBroken}
+use Rattle.book.specs.Broken.{rowsBroken, wordsBroken, WellFormed}
 use Rattle.reconstructor_state.specs.declared.VenueRules.{VenueRules}
 use Rattle.reconstructor_state.specs.declared.Status.the-variants.{Valid}
 use Rattle.reconstructor_answers.specs.declared.StateError.{StateError}
@@ -22,7 +22,6 @@ use Rattle.reconstructor_checks.specs.declared.Checked.{Checked}
 use Rattle.reconstructor_checks.specs.declared.Checked.the-variants.{Passed, Refused}
 use Rattle.reconstructor_checks.specs.StateChecks.{overCeiling, memoryShort, tooShort, unsettled, broken, stateRefusal, bookRefusal, checked, Usable, Trusted}
 use Rattle.laws.proofs.Bools.{or-no, or-both}
-use Rattle.book.proofs.Fits.{WellFormed}
 use Rattle.book.proofs.Rows.{length-rows}
 use Rattle.book.proofs.Kept.{broken-not, not-broken}
 use Rattle.reconstructor_state.proofs.Checks.{passed, goes-on}

@@ -27,7 +27,7 @@ use Rattle.reconstructor.proofs.ByValue.{applied-trusted-to}
 use Rattle.reconstructor_handshake.specs.declared.Handshake.{Handshake}
 use Rattle.reconstructor_handshake.specs.declared.StepAnswer.{StepAnswer}
 use Rattle.reconstructor_handshake.specs.declared.StepAnswer.the-variants.{Stepped, Dropped, OtherSegment}
-use Rattle.reconstructor_handshake.specs.Step.{otherSegment, stepRefusal, drops, after, StepParts, StepWorked, unchanged, dropped, decided, unlessRefused, putBack, steppedTo, stepped}
+use Rattle.reconstructor_handshake.specs.Step.{otherSegment, stepRefusal, drops, after, StepParts, StepWorked, unchanged, dropped, byApply, unlessRefused, putBack, steppedTo, stepped}
 use Rattle.reconstructor_handshake.specs.Inner.{stepTo}
 
 -- ---- by value
@@ -50,7 +50,7 @@ module _ (top : ℕ) (h : Handshake) (b : BookReconstructor) (mem : Memory) (len
     unfolding steppedTo stepTo stepRefusal
     usable-work =
         rw (first-on _ _ _ _ (usable-none top b mem lent u) refl)
-        (ap (λ (w : Worked). unlessRefused (check (otherSegment h (segmentOf b) (b .segments)) OtherSegment (check (not (eventInRange (m .event))) (Stepped answers.AmountOutOfRange) none)) (cond (drops (b .«product_id») (g .«start_seq») m) (dropped h b mem g) (decided h w)) h b mem g) (applied-trusted-to top b mem lent g m u))
+        (ap (λ (w : Worked). unlessRefused (check (otherSegment h (segmentOf b) (b .segments)) OtherSegment (check (not (eventInRange (m .event))) (Stepped answers.AmountOutOfRange) none)) (cond (drops (b .«product_id») (g .«start_seq») m) (dropped h b mem g) (byApply h w)) h b mem g) (applied-trusted-to top b mem lent g m u))
 
     other-work : otherSegment h (segmentOf b) (b .segments) ≡ true → steppedTo top h b mem lent g m ≡ unchanged OtherSegment h b mem g
     unfolding stepRefusal

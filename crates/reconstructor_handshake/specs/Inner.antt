@@ -16,12 +16,12 @@ use Rattle.reconstructor_handshake.specs.declared.Handshake.{Handshake}
 use Rattle.reconstructor_handshake.specs.declared.StepAnswer.the-variants.{Stepped, OtherSegment}
 use Rattle.reconstructor_handshake.specs.declared.StepReply.{StepReply}
 use Rattle.reconstructor_handshake.specs.declared.StepWork.{StepWork}
-use Rattle.reconstructor_handshake.specs.Step.{otherSegment, drops, StepWorked, after, dropped, decided, unlessRefused}
+use Rattle.reconstructor_handshake.specs.Step.{otherSegment, drops, StepWorked, after, dropped, byApply, unlessRefused}
 
 -- what 9 and 5 let pass is dropped, or `apply` decides
 abbrev pub admittedTo : Handshake → BookReconstructor → Memory → Segment → L3Message → StepWorked
 admittedTo h b mem g m =
-    cond (drops (b .«product_id») (g .«start_seq») m) (dropped h b mem g) (decided h (trustedTo b mem g m))
+    cond (drops (b .«product_id») (g .«start_seq») m) (dropped h b mem g) (byApply h (trustedTo b mem g m))
 
 -- in a state that passes 1, 2 and 3: 9, then 5
 unfoldable pub stepTo : Handshake → BookReconstructor → Memory → Segment → L3Message → StepWorked

@@ -111,8 +111,8 @@ abbrev pub unchanged : StepAnswer → Handshake → BookReconstructor → Memory
 unchanged a h b mem g = record { answer = a; handshake = h; book = b; memory = mem; segment = g }
 
 -- `apply` has decided
-abbrev pub decided : Handshake → Worked → StepWorked
-decided h w =
+abbrev pub byApply : Handshake → Worked → StepWorked
+byApply h w =
     record { answer = Stepped (w .answer); handshake = after h (w .answer); book = w .book; memory = w .memory; segment = w .segment }
 
 -- "dropped and counted"
@@ -128,7 +128,7 @@ unlessRefused none p h b mem g = p
 unfoldable pub steppedTo : ℕ → Handshake → BookReconstructor → Memory → ℕ → Segment → L3Message → StepWorked
 steppedTo top h b mem lent g m =
     unlessRefused (stepRefusal top (b .rules) (lengthsWith mem lent) (broken b mem) (viewWith b mem g) (segmentOf b) h m)
-    (cond (drops (b .«product_id») (g .«start_seq») m) (dropped h b mem g) (decided h (appliedTo top b mem lent g m)))
+    (cond (drops (b .«product_id») (g .«start_seq») m) (dropped h b mem g) (byApply h (appliedTo top b mem lent g m)))
     h
     b
     mem

@@ -18,6 +18,7 @@ use Rattle.message.specs.declared.L3Event.{L3Event}
 use Rattle.message.specs.declared.L3Event.the-variants.{Received, Open, Done, Match, Change, Unsupported}
 use Rattle.message.specs.Values.{amountLimit, inRange, eventInRange}
 use Rattle.message.specs.Amounts.{natOf}
+use Rattle.book.specs.Broken.{WellFormed}
 use Rattle.book.specs.declared.Decrease.{Decrease}
 use Rattle.book.specs.declared.Decrease.the-variants.{Unmarked, Marked}
 use Rattle.book.specs.declared.Found.{Found}
@@ -28,7 +29,6 @@ use Rattle.book.specs.Rows.{rowAt, rowsOf, lineOf, entryOf, findRow, cutRows, o
 use Rattle.book.specs.Memory.{Effect, keep, cutTo, ordersBy}
 use Rattle.reconstructor_state.specs.declared.VenueRules.{VenueRules}
 use Rattle.reconstructor_plan.specs.Rules.{entryFor, openRefusal, changeRefusal, sizeRefusal, sizeGiven, doneEffect, matchEffect, changeEffect, eventRefusal, effect}
-use Rattle.book.proofs.Fits.{WellFormed}
 use Rattle.book.proofs.Stored.{found-at, found-none}
 use Rattle.book.proofs.Kept.{InRange, row-sound, length-line, insert-kept, cut-kept}
 use Rattle.book.proofs.Memory.{observed-side}

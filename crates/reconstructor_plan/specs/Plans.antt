@@ -30,17 +30,17 @@ pub record Ready (ws : List ℕ) (n limit : ℕ) : Type 0 where
   pub small : limit ≤ mostRows
 
 -- the orders afterwards, the counter and the answer
-pub record Outcome : Type 0 where
+pub record PlanOutcome : Type 0 where
   pub orders : List Resting
   pub counter : Counter
   pub answer : Applied
 
 -- what a deed of the rules comes to
-abbrev pub outcomeOf : Deed → List Resting → Outcome
-outcomeOf d os = record { orders = ordersBy (d .effect) os; counter = d .counter; answer = answerBy (d .effect) }
+abbrev pub deedOutcome : Deed → List Resting → PlanOutcome
+deedOutcome d os = record { orders = ordersBy (d .effect) os; counter = d .counter; answer = answerBy (d .effect) }
 
 -- what committing a plan does to n rows
-abbrev pub planOutcome : List ℕ → ℕ → Plan → Outcome
+abbrev pub planOutcome : List ℕ → ℕ → Plan → PlanOutcome
 planOutcome ws n (NoEffect k) = record { orders = rowsOf ws n; counter = k; answer = NoBookEffect }
 planOutcome ws n (Insert o) = record { orders = rowsOf ws n ++ (o ∷ []); counter = counters.Open; answer = BookChanged }
 planOutcome ws n (Reduce at r mark k) = record { orders = set (rowsOf ws n) at (reduced (rowAt ws at) r mark); counter = k; answer = BookChanged }
@@ -60,7 +60,7 @@ PlanFits ws n (Remove at k) = at < n
 -- the answer of planning, where the rules refuse so, and where they do so
 abbrev pub PlansFor : Option Discrepancy → Deed → List ℕ → ℕ → Planned → Type 0
 PlansFor refusal deed ws n (Refused d) = refusal ≡ some d
-PlansFor refusal deed ws n (Planned·Plan p) = (refusal ≡ none) × (planOutcome ws n p ≡ outcomeOf deed (rowsOf ws n)) × PlanFits ws n p
+PlansFor refusal deed ws n (Planned·Plan p) = (refusal ≡ none) × (planOutcome ws n p ≡ deedOutcome deed (rowsOf ws n)) × PlanFits ws n p
 
 -- an event on n rows, under these rules and at this sequence
 abbrev pub Plans : VenueRules → List ℕ → ℕ → ℕ → L3Event → Planned → Type 0

@@ -7,7 +7,7 @@ use lib.ListN.{replicate}
 use Rattle.piece.specs.Words.{messageWords}
 use Rattle.piece.specs.Piece.{readMessage}
 use Rattle.host_pieces.specs.Pieces.{messageNumber, messageOut}
-use Rattle.host_calls.specs.Calls.{Call, called, applyCall, StepCall, stepCalled, stepCall}
+use Rattle.host_calls.specs.Calls.{BookCall, called, applyCall, StepCall, stepCalled, stepCall}
 
 abbrev pub blank : List ℕ
 blank = replicate messageWords 0
@@ -22,7 +22,7 @@ readWords bytes = messageOut blank (readMessage bytes)
 unfoldable pub ifRead : {A : Type 0} → List ℕ → (List ℕ → A) → (ℕ → A) → A
 ifRead bytes onWords onNumber = cond (eqb (readNumber bytes) 0) (onWords (readWords bytes)) (onNumber (readNumber bytes))
 
-abbrev pub pieceCall : List ℕ → List ℕ → List ℕ → List ℕ → Call
+abbrev pub pieceCall : List ℕ → List ℕ → List ℕ → List ℕ → BookCall
 pieceCall st ws sg bytes = ifRead bytes (applyCall st ws sg) (λ k. called k st ws sg)
 
 abbrev pub pieceStep : List ℕ → List ℕ → List ℕ → List ℕ → List ℕ → StepCall

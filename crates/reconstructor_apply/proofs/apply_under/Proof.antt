@@ -1,7 +1,7 @@
 use mathlib.Core.Path.{refl}
 use borrow.Author.Needs.{needs}
 use Rattle.book.specs.Memory.{memory}
-use Rattle.reconstructor.specs.Applied.{answered, appliedTo}
+use Rattle.reconstructor.specs.Applied.{afterGate, appliedTo}
 use Rattle.reconstructor.specs.Refusals.{gateRefusal}
 use Rattle.reconstructor_state.proofs.Checks.{first-fails, first-on}
 use Rattle.reconstructor_checks.proofs.StateChecks.{usable, trusted-under, said, said-none}
@@ -15,7 +15,7 @@ apply-trusted-requires c κs =
     trusted-under (a .top) (a .book) (memory (a .rows .now)) (a .lent) (k-start .pre) (usable (a .top) (a .book) (memory (a .rows .now)) (a .lent) (said-none _ _ (c .before .before .before .own-checks .ensures) (c .before .enum-told .given .1)))
 
 returns : tie.Need-returns
-unfolding appliedTo answered gateRefusal
+unfolding appliedTo afterGate gateRefusal
 returns c =
     rw (first-fails _ _ _ _ (said _ _ _ (c .before .before .before .before .before .own-checks .ensures) (c .before .before .before .why .given .1)), c .work-of .ensures, c .before .refused .ensures)
 

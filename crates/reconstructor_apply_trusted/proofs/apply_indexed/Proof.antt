@@ -1,17 +1,17 @@
 use borrow.Author.Needs.{needs}
-use Rattle.reconstructor.specs.Applied.{answered}
+use Rattle.reconstructor.specs.Applied.{afterGate}
 use Rattle.reconstructor.proofs.ByValue.{joins}
 use Rattle.reconstructor_apply_trusted.proofs.apply_indexed.Statement.{statement}
 use Rattle.reconstructor_apply_trusted.proofs.apply_indexed.Tie as tie
 
 returns : tie.Need-returns
-unfolding answered
+unfolding afterGate
 returns c =
     let g = rw (c .before .before .before .answer .given .1) at (c .before .before .before .before .before .admit .ensures) in
     rw (g, c .work-of .ensures, c .before .refused .ensures)
 
 returns-2 : tie.Need-returns-2
-unfolding answered
+unfolding afterGate
 returns-2 c =
     let a = c .before .before .before .before .before .before .before .before .before .before .before .before .args in
     let g = rw (c .before .before .before .before .before .before .before .last-seq .given .1) at (c .before .before .before .before .before .before .before .before .before .admit .ensures) in
