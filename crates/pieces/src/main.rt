@@ -2,8 +2,29 @@
 // a line of the message reader (m) and a line of the snapshot reader (s), the number of 01's table first and then the fields.
 ghost use Prim.Native.Nat.{_+_, _<_, _≤_};
 ghost use lib.ListN.{length};
+ghost use Rattle.piece.specs.Words.{messageWords};
 use libc::STDIN_FILENO;
 use libc::STDOUT_FILENO;
+use piece::MESSAGE_WORDS;
+
+// The word of a message where its event's fields start.
+const FIELDS_AT: usize = 5;
+
+// Words that the readers give of a snapshot's header and of one order.
+const SNAPSHOT_WORDS: usize = 5;
+
+const ORDER_WORDS: usize = 4;
+
+// Bytes of a snapshot piece before its orders, and of an order.
+const SNAPSHOT_BYTES: usize = 41;
+
+const ORDER_BYTES: usize = 32;
+
+// Bytes of the length in front of a piece.
+const LENGTH_BYTES: usize = 4;
+
+// The most input that is read: the recorded pieces have less.
+const INPUT_BYTES: usize = 262144;
 
 fn print_number(n: u64) {
     io::write_all(STDOUT_FILENO, b" ");
@@ -46,22 +67,22 @@ fn is_amount(kind: u64, field: usize) -> bool {
 }
 
 fn print_fields(kind: u64, words: &[u64])
-    requires { ⌜ 21 ≤ length (now words) ⌝ }
+    requires { ⌜ messageWords ≤ length (now words) ⌝ }
 {
     let n = field_count(kind);
     let mut i: usize = 0;
     while i < n {
         if is_amount(kind, i) {
-            print_amount(words[5 + i]);
+            print_amount(words[FIELDS_AT + i]);
         } else {
-            print_number(words[5 + i]);
+            print_number(words[FIELDS_AT + i]);
         }
         i += 1;
     }
 }
 
 fn print_message(piece: &[u8]) {
-    let mut words = [0u64; 21];
+    let mut words = [0u64; MESSAGE_WORDS];
     let number = host::pinuglaw_read_message(piece, &mut words);
     io::write_all(STDOUT_FILENO, b"m");
     print_number(number);
@@ -77,7 +98,7 @@ fn print_message(piece: &[u8]) {
 }
 
 fn print_order(piece: &[u8], place: usize) {
-    let mut words = [0u64; 4];
+    let mut words = [0u64; ORDER_WORDS];
     host::pinuglaw_snapshot_order(piece, place, &mut words);
     print_number(words[0]);
     print_number(words[1]);
@@ -94,7 +115,7 @@ fn print_orders(piece: &[u8], orders: usize) {
 }
 
 fn print_snapshot(piece: &[u8]) {
-    let mut words = [0u64; 5];
+    let mut words = [0u64; SNAPSHOT_WORDS];
     let number = host::pinuglaw_read_snapshot(piece, &mut words);
     io::write_all(STDOUT_FILENO, b"s");
     print_number(number);
@@ -104,8 +125,8 @@ fn print_snapshot(piece: &[u8]) {
         print_number(words[2]);
         print_number(words[3]);
         print_number(words[4]);
-        if piece.len() > 41 {
-            print_orders(piece, (piece.len() - 41) / 32);
+        if piece.len() > SNAPSHOT_BYTES {
+            print_orders(piece, (piece.len() - SNAPSHOT_BYTES) / ORDER_BYTES);
         }
     }
     io::write_all(STDOUT_FILENO, b"\n");
@@ -136,8 +157,8 @@ fn length_at(input: &[u8], at: usize) -> usize
 // Every piece of the input, up to a length that it does not reach.
 fn show_all(input: &[u8]) {
     let mut at: usize = 0;
-    while 4 <= input.len() - at {
-        let start = at + 4;
+    while LENGTH_BYTES <= input.len() - at {
+        let start = at + LENGTH_BYTES;
         let n = length_at(input, at);
         if input.len() - start < n {
             return;
@@ -149,7 +170,7 @@ fn show_all(input: &[u8]) {
 }
 
 fn main() {
-    let mut input = [0u8; 262144];
+    let mut input = [0u8; INPUT_BYTES];
     let n = io::read_full(STDIN_FILENO, &mut input);
     show_all(&input[..n]);
 }
