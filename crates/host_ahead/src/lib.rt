@@ -1,9 +1,9 @@
 // The volume ahead of an order in a book whose state is words, as `host` exports it.
+use host_ahead_words::store_ahead;
 use host_boundary::boundary;
 use host_boundary::no_estimate;
 use host_estimate_words::ESTIMATE_WORDS;
 use host_estimate_words::load_estimate;
-use host_estimate_words::store_ahead;
 use host_words::load_book;
 ghost use mathlib.Core.Path.{_≡_};
 ghost use Rattle.host_answers.specs.Answers.{answered};
