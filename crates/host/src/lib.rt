@@ -27,7 +27,7 @@ pub extern "C" fn pinuglaw_read_message(bytes: &[u8], out: &mut [u64]) -> u64
     ensures number { λ r. ⌜ r ≡ messageNumber (now (out .entry)) (readMessage (now (bytes .entry))) ⌝ }
     ensures words { λ r. ⌜ now (out .exit) ≡ messageOut (now (out .entry)) (readMessage (now (bytes .entry))) ⌝ }
 {
-    host_pieces::read_message(bytes, out)
+    host_pieces_message::read_message(bytes, out)
 }
 
 // Reads a snapshot piece into 5 words: product (two), sequence, number of bids, number of asks.

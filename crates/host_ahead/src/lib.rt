@@ -1,8 +1,8 @@
 // The volume ahead of an order in a book whose state is words, as `host` exports it.
+use host_ahead_words::store_ahead;
 use host_boundary::boundary;
 use host_estimate_words::ESTIMATE_WORDS;
 use host_estimate_words::load_estimate;
-use host_estimate_words::store_ahead;
 use host_word_tests::no_estimate;
 use host_words::load_book;
 ghost use mathlib.Core.Path.{_≡_};

@@ -3,11 +3,11 @@
 use host_boundary::boundary;
 use host_records::RECORD_WORDS;
 use host_records::last_record;
-use host_records::put_record;
-use host_records::rewrite_record;
+use host_records_store::put_record;
+use host_records_store::rewrite_record;
 use host_word_tests::list_short;
 use host_words::load_book;
-use host_words::store_book;
+use host_words_store::store_book;
 ghost use mathlib.Core.Path.{_≡_};
 ghost use Rattle.host_calls.specs.Calls.{called, bootstrapCall};
 

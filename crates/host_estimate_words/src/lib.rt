@@ -1,22 +1,19 @@
-// An estimate from words and as words, and a volume ahead as words; the layouts are beside the answers' enums (crate `queue`, specs/Numbers.antt).
+// An estimate from words and as words; the layout is beside the answers' enums (crate `queue`, specs/Numbers.antt).
 use host_answers::give;
 use host_words::bits;
 use host_words::load_side;
 use host_words::side_word;
 use host_words::signed;
 use message::OrderId;
-use queue::AheadAnswer;
 use queue::Anchor;
-use queue::Assumption;
 use queue::EstimateAnswer;
-use queue::QueueAhead;
 use queue::QueueEstimate;
 use reconstructor_segments::SegmentName;
 ghost use mathlib.Core.Path.{_≡_};
 ghost use mathlib.Core.List.{[], _∷_};
 ghost use Prim.Native.Nat.{_≤_};
 ghost use lib.ListN.{length};
-ghost use Rattle.queue.specs.Numbers.{anchorValues, estimateValues, estimateTold, assumptionWord, flagWord, aheadValues, aheadTold};
+ghost use Rattle.queue.specs.Numbers.{anchorValues, estimateValues, estimateTold};
 ghost use Rattle.host_answers.specs.Answers.{answered, given, toldIn};
 ghost use Rattle.host_estimate_words.specs.Estimates.{estimateWords, anchorOf, estimateOf};
 
@@ -118,50 +115,5 @@ pub fn store_estimate(out: &mut [u64], answer: EstimateAnswer) -> u64
     match answer {
         EstimateAnswer::Estimate(estimate) => give_estimate(out, estimate),
         EstimateAnswer::Refused(why) => why.number(),
-    }
-}
-
-fn assumption_word(assumption: Assumption) -> u64
-    ensures { λ r. ⌜ r ≡ assumptionWord assumption ⌝ }
-{
-    match assumption {
-        Assumption::BackOfVisibleQueueAtCreation => 0,
-        Assumption::EntrySequenceIsPriority => 1,
-        Assumption::SizeDecreaseKeepsPriority => 2,
-    }
-}
-
-fn flag_word(flag: bool) -> u64
-    ensures { λ r. ⌜ r ≡ flagWord flag ⌝ }
-{
-    if flag { 1 } else { 0 }
-}
-
-fn give_ahead(out: &mut [u64], a: QueueAhead) -> u64
-    ensures { λ r. ⌜ answered r (now (out .exit)) ≡ given (aheadValues a) (now (out .entry)) ⌝ }
-{
-    let first = a.assumption;
-    let assumption = assumption_word(first);
-    let keeps = flag_word(a.keeps_priority);
-    give(
-        out,
-        &[
-            a.at_seq,
-            a.volume,
-            a.from_snapshot,
-            a.observed,
-            a.orders as u64,
-            assumption,
-            keeps,
-        ],
-    )
-}
-
-pub fn store_ahead(out: &mut [u64], answer: AheadAnswer) -> u64
-    ensures { λ r. ⌜ answered r (now (out .exit)) ≡ toldIn (aheadTold answer) (now (out .entry)) ⌝ }
-{
-    match answer {
-        AheadAnswer::Ahead(a) => give_ahead(out, a),
-        AheadAnswer::Refused(why) => why.number(),
     }
 }

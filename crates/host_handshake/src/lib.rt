@@ -1,5 +1,5 @@
 // A handshake as words. specs/HandshakeWords.antt has the layout.
-use host_words::sets_status;
+use host_words_store::sets_status;
 use laws::put;
 use reconstructor_handshake::Handshake;
 use reconstructor_handshake::StepAnswer;

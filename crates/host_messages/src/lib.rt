@@ -1,4 +1,8 @@
 // A message from words and as words; Words.antt of crate `piece`, and specs/Block.antt of crate `host_words`, have the layout.
+use host_message_values::change_reason_word;
+use host_message_values::done_reason_word;
+use host_message_values::is_present;
+use host_message_values::optional_bits;
 use host_words::bits;
 use host_words::load_side;
 use host_words::side_word;
@@ -7,169 +11,181 @@ use message::ChangeReason;
 use message::DoneReason;
 use message::L3Event;
 use message::L3Message;
+use message::L3Side;
 use message::OptionalAmount;
 use message::OrderId;
 use message::ProductId;
 ghost use mathlib.Core.Path.{_≡_};
 ghost use Prim.Native.Nat.{_≤_};
 ghost use lib.ListN.{length};
-ghost use Rattle.piece.specs.Words.{messageWords};
+ghost use Rattle.piece.specs.Words.{messageWords, eventWords};
 ghost use Rattle.piece.specs.Piece.{doneReasonOf, changeReasonOf};
-ghost use Rattle.piece.specs.Encode.{kindByte, doneReasonByte, changeReasonByte, presentBit, optionalWord};
-ghost use Rattle.piece.specs.Words.{eventWords};
 ghost use Rattle.host_words.specs.Block.{optionalOf, receivedOf, openOf, doneOf, matchOf, changeOf, eventOf, messageOf};
 
-fn optional_bits(amount: OptionalAmount) -> u64
-    ensures { λ r. ⌜ r ≡ optionalWord amount ⌝ }
+// ---- an event's words: its fields in the Rust's order, and 0 past the last
+
+fn received_words(order_id: OrderId, side: L3Side) -> [u64; 16]
+    ensures { λ r. ⌜ r ≡ eventWords (L3Event.Received «order_id» side) ⌝ }
 {
-    match amount {
-        OptionalAmount::Absent => 0,
-        OptionalAmount::Given(a) => bits(a),
-    }
+    [
+        order_id.high,
+        order_id.low,
+        side_word(side),
+        0,
+        0,
+        0,
+        0,
+        0,
+        0,
+        0,
+        0,
+        0,
+        0,
+        0,
+        0,
+        0,
+    ]
 }
 
-fn is_present(amount: OptionalAmount) -> u64
-    ensures { λ r. ⌜ r ≡ presentBit amount ⌝ }
+fn open_words(order_id: OrderId, side: L3Side, price: i64, remaining: i64) -> [u64; 16]
+    ensures { λ r. ⌜ r ≡ eventWords (L3Event.Open «order_id» side price remaining) ⌝ }
 {
-    match amount {
-        OptionalAmount::Absent => 0,
-        OptionalAmount::Given(_) => 1,
-    }
+    [
+        order_id.high,
+        order_id.low,
+        side_word(side),
+        bits(price),
+        bits(remaining),
+        0,
+        0,
+        0,
+        0,
+        0,
+        0,
+        0,
+        0,
+        0,
+        0,
+        0,
+    ]
 }
 
-fn done_reason_word(reason: DoneReason) -> u64
-    ensures { λ r. ⌜ r ≡ doneReasonByte reason ⌝ }
+fn done_words(
+    order_id: OrderId,
+    side: L3Side,
+    price: OptionalAmount,
+    reason: DoneReason,
+    remaining: OptionalAmount,
+) -> [u64; 16]
+    ensures { λ r. ⌜ r ≡ eventWords (L3Event.Done «order_id» side price reason remaining) ⌝ }
 {
-    match reason {
-        DoneReason::Filled => 0,
-        DoneReason::Canceled => 1,
-    }
+    [
+        order_id.high,
+        order_id.low,
+        side_word(side),
+        is_present(price),
+        optional_bits(price),
+        done_reason_word(reason),
+        is_present(remaining),
+        optional_bits(remaining),
+        0,
+        0,
+        0,
+        0,
+        0,
+        0,
+        0,
+        0,
+    ]
 }
 
-fn change_reason_word(reason: ChangeReason) -> u64
-    ensures { λ r. ⌜ r ≡ changeReasonByte reason ⌝ }
+fn match_words(
+    maker_id: OrderId,
+    taker_id: OrderId,
+    side: L3Side,
+    price: i64,
+    size: i64,
+) -> [u64; 16]
+    ensures { λ r. ⌜ r ≡ eventWords (L3Event.Match «maker_id» «taker_id» side price size) ⌝ }
 {
-    match reason {
-        ChangeReason::Stp => 0,
-        ChangeReason::ModifyOrder => 1,
-    }
+    [
+        maker_id.high,
+        maker_id.low,
+        taker_id.high,
+        taker_id.low,
+        side_word(side),
+        bits(price),
+        bits(size),
+        0,
+        0,
+        0,
+        0,
+        0,
+        0,
+        0,
+        0,
+        0,
+    ]
 }
 
-pub fn kind_word(event: L3Event) -> u64
-    ensures { λ r. ⌜ r ≡ kindByte event ⌝ }
+fn change_words(
+    order_id: OrderId,
+    side: L3Side,
+    reason: ChangeReason,
+    price: OptionalAmount,
+    old_size: OptionalAmount,
+    new_size: OptionalAmount,
+    old_price: OptionalAmount,
+    new_price: OptionalAmount,
+    new_funds: OptionalAmount,
+) -> [u64; 16]
+    ensures { λ r. ⌜ r ≡ eventWords (L3Event.Change «order_id» side reason price «old_size» «new_size» «old_price» «new_price» «new_funds») ⌝ }
 {
-    match event {
-        L3Event::Received { .. } => 1,
-        L3Event::Open { .. } => 2,
-        L3Event::Done { .. } => 3,
-        L3Event::Match { .. } => 4,
-        L3Event::Change { .. } => 5,
-        L3Event::Unsupported { .. } => 6,
-    }
+    [
+        order_id.high,
+        order_id.low,
+        side_word(side),
+        change_reason_word(reason),
+        is_present(price),
+        optional_bits(price),
+        is_present(old_size),
+        optional_bits(old_size),
+        is_present(new_size),
+        optional_bits(new_size),
+        is_present(old_price),
+        optional_bits(old_price),
+        is_present(new_price),
+        optional_bits(new_price),
+        is_present(new_funds),
+        optional_bits(new_funds),
+    ]
 }
 
-// The fields of an event in the Rust's order, and 0 past the last.
 pub fn event_words(event: L3Event) -> [u64; 16]
     ensures { λ r. ⌜ r ≡ eventWords event ⌝ }
 {
     match event {
-        L3Event::Received { order_id, side } => {
-            [
-                order_id.high,
-                order_id.low,
-                side_word(side),
-                0,
-                0,
-                0,
-                0,
-                0,
-                0,
-                0,
-                0,
-                0,
-                0,
-                0,
-                0,
-                0,
-            ]
-        }
+        L3Event::Received { order_id, side } => received_words(order_id, side),
         L3Event::Open {
             order_id,
             side,
             price,
             remaining,
-        } => {
-            [
-                order_id.high,
-                order_id.low,
-                side_word(side),
-                bits(price),
-                bits(remaining),
-                0,
-                0,
-                0,
-                0,
-                0,
-                0,
-                0,
-                0,
-                0,
-                0,
-                0,
-            ]
-        }
+        } => open_words(order_id, side, price, remaining),
         L3Event::Done {
             order_id,
             side,
             price,
             reason,
             remaining,
-        } => {
-            [
-                order_id.high,
-                order_id.low,
-                side_word(side),
-                is_present(price),
-                optional_bits(price),
-                done_reason_word(reason),
-                is_present(remaining),
-                optional_bits(remaining),
-                0,
-                0,
-                0,
-                0,
-                0,
-                0,
-                0,
-                0,
-            ]
-        }
+        } => done_words(order_id, side, price, reason, remaining),
         L3Event::Match {
             maker_id,
             taker_id,
             side,
             price,
             size,
-        } => {
-            [
-                maker_id.high,
-                maker_id.low,
-                taker_id.high,
-                taker_id.low,
-                side_word(side),
-                bits(price),
-                bits(size),
-                0,
-                0,
-                0,
-                0,
-                0,
-                0,
-                0,
-                0,
-                0,
-            ]
-        }
+        } => match_words(maker_id, taker_id, side, price, size),
         L3Event::Change {
             order_id,
             side,
@@ -181,24 +197,17 @@ pub fn event_words(event: L3Event) -> [u64; 16]
             new_price,
             new_funds,
         } => {
-            [
-                order_id.high,
-                order_id.low,
-                side_word(side),
-                change_reason_word(reason),
-                is_present(price),
-                optional_bits(price),
-                is_present(old_size),
-                optional_bits(old_size),
-                is_present(new_size),
-                optional_bits(new_size),
-                is_present(old_price),
-                optional_bits(old_price),
-                is_present(new_price),
-                optional_bits(new_price),
-                is_present(new_funds),
-                optional_bits(new_funds),
-            ]
+            change_words(
+                order_id,
+                side,
+                reason,
+                price,
+                old_size,
+                new_size,
+                old_price,
+                new_price,
+                new_funds,
+            )
         }
         L3Event::Unsupported { kind } => {
             [kind as u64, 0, 0, 0, 0, 0, 0, 0, 0, 0, 0, 0, 0, 0, 0, 0]

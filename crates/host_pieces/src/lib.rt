@@ -1,43 +1,10 @@
-// Pieces read into words: the readers that `host` exports.
-use host_messages::event_words;
-use host_messages::kind_word;
+// A snapshot piece and its orders read into words: the readers that `host` exports. specs/Pieces.antt says the same of a message (`host_pieces_message`).
 use host_words::bits;
 use laws::put;
-use piece::MESSAGE_WORDS;
-use piece::ReadMessage;
 use piece::ReadSnapshot;
 ghost use mathlib.Core.Path.{_≡_};
-ghost use Rattle.piece.specs.Piece.{readMessage, readSnapshot, orderAt};
-ghost use Rattle.host_pieces.specs.Pieces.{messageNumber, messageOut, snapshotNumber, snapshotOut, orderNumber, orderOut};
-
-pub fn read_message(bytes: &[u8], out: &mut [u64]) -> u64
-    ensures number { λ r. ⌜ r ≡ messageNumber (now (out .entry)) (readMessage (now (bytes .entry))) ⌝ }
-    ensures words { λ r. ⌜ now (out .exit) ≡ messageOut (now (out .entry)) (readMessage (now (bytes .entry))) ⌝ }
-{
-    match piece_messages::read_message(bytes) {
-        ReadMessage::Message(m) => {
-            if out.len() < MESSAGE_WORDS {
-                return 7;
-            }
-            let event = m.event;
-            let product = m.product_id;
-            put(
-                out,
-                0,
-                &[
-                    kind_word(event),
-                    product.high,
-                    product.low,
-                    m.sequence,
-                    m.time_us,
-                ],
-            );
-            put(out, 5, &event_words(event));
-            0
-        }
-        ReadMessage::Refused(e) => e.number(),
-    }
-}
+ghost use Rattle.piece.specs.Piece.{readSnapshot, orderAt};
+ghost use Rattle.host_pieces.specs.Pieces.{snapshotNumber, snapshotOut, orderNumber, orderOut};
 
 pub fn read_snapshot(bytes: &[u8], out: &mut [u64]) -> u64
     ensures number { λ r. ⌜ r ≡ snapshotNumber (now (out .entry)) (readSnapshot (now (bytes .entry))) ⌝ }

@@ -1,11 +1,10 @@
-// A segment list as words, eight a record: the form in which C lends it. What `reconstructor_segments` does on a slice of records is done here on their words.
-use laws::put;
+// A segment list as words, eight a record: the form in which C lends it. What `reconstructor_segments` does on a slice of records is done on their words here and, to write, in `host_records_store`.
 use reconstructor_segments::Segment;
 ghost use mathlib.Core.Path.{_≡_};
 ghost use Prim.Native.Nat.{_+_, _*_, _≤_};
-ghost use lib.ListN.{length, set};
-ghost use Rattle.reconstructor_segments.specs.Segments.{segmentAt, lastSegment, relast};
-ghost use Rattle.host_records.specs.Records.{recordWords, recordAt, recordsOf, setRecord, relaid};
+ghost use lib.ListN.{length};
+ghost use Rattle.reconstructor_segments.specs.Segments.{segmentAt, lastSegment};
+ghost use Rattle.host_records.specs.Records.{recordWords, recordAt, recordsOf};
 
 // Words of a record.
 pub const RECORD_WORDS: usize = 8;
@@ -28,27 +27,6 @@ fn get_record(words: &[u64], i: usize) -> Segment
     }
 }
 
-// Writes record `i`.
-fn set_record(words: &mut [u64], i: usize, segment: Segment)
-    requires { ⌜ recordWords * i + recordWords ≤ length (now words) ⌝ }
-    ensures { λ _. ⌜ now (words .exit) ≡ setRecord (now (words .entry)) i segment ⌝ }
-{
-    put(
-        words,
-        RECORD_WORDS * i,
-        &[
-            segment.start_seq,
-            segment.last_good_seq,
-            segment.end,
-            segment.end_good,
-            segment.end_seq,
-            segment.end_detail,
-            segment.first_us,
-            segment.last_us,
-        ],
-    );
-}
-
 // The record at a place; zeros where there is none.
 pub fn record_at(words: &[u64], place: usize) -> Segment
     ensures { λ r. ⌜ r ≡ segmentAt (recordsOf (now (words .entry))) place ⌝ }
@@ -59,15 +37,6 @@ pub fn record_at(words: &[u64], place: usize) -> Segment
     Segment::none()
 }
 
-// Writes the record at a place; nothing where there is none.
-pub fn put_record(words: &mut [u64], place: usize, segment: Segment)
-    ensures { λ _. ⌜ now (words .exit) ≡ relaid (now (words .entry)) (set (recordsOf (now (words .entry))) place segment) ⌝ }
-{
-    if place < words.len() / RECORD_WORDS {
-        set_record(words, place, segment);
-    }
-}
-
 // The last of the first `count` records; zeros where there is none.
 pub fn last_record(words: &[u64], count: usize) -> Segment
     ensures { λ r. ⌜ r ≡ lastSegment (recordsOf (now (words .entry))) count ⌝ }
@@ -76,13 +45,4 @@ pub fn last_record(words: &[u64], count: usize) -> Segment
         return Segment::none();
     }
     record_at(words, count - 1)
-}
-
-// Writes the last of the first `count` records; nothing where there is none.
-pub fn rewrite_record(words: &mut [u64], count: usize, segment: Segment)
-    ensures { λ _. ⌜ now (words .exit) ≡ relaid (now (words .entry)) (relast (recordsOf (now (words .entry))) count segment) ⌝ }
-{
-    if count > 0 {
-        put_record(words, count - 1, segment);
-    }
 }

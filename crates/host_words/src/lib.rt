@@ -1,8 +1,6 @@
-// A state from its block and as a block, and the values that words are made of; specs/Block.antt has the layouts. Crate `host_messages` has a message's words.
-use laws::put;
+// A state from its block, the words of its status, and the values that words are made of; specs/Block.antt has the layouts. Crate `host_words_store` writes a block, `host_messages` has a message's words.
 use message::L3Side;
 use message::ProductId;
-use reconstructor_answers::ApplyAnswer;
 use reconstructor_answers::Discrepancy;
 use reconstructor_answers::Invalidation;
 use reconstructor_answers::InvalidationKind;
@@ -13,14 +11,13 @@ use reconstructor_state::SizeDecrease;
 use reconstructor_state::Status;
 use reconstructor_state::VenueRules;
 ghost use mathlib.Core.Path.{_≡_};
-ghost use mathlib.Core.List.{_++_};
-ghost use Prim.Native.Nat.{_+_, _≤_};
-ghost use lib.ListN.{length, take, drop};
+ghost use Prim.Native.Nat.{_≤_};
+ghost use lib.ListN.{length};
 ghost use mir.Syntax.{w64};
 ghost use mir.Val.{ofZ, toZ};
 ghost use Rattle.piece.specs.Piece.{sideOf};
 ghost use Rattle.piece.specs.Encode.{sideByte};
-ghost use Rattle.host_words.specs.Block.{stateWords, sizeDecreaseOf, reasonOf, discrepancyOf, kindOf, statusOf, rulesOf, countsOf, bookOf, kindWords, statusWords, statusAfter, restList, restored, setsStatus};
+ghost use Rattle.host_words.specs.Block.{stateWords, sizeDecreaseOf, reasonOf, discrepancyOf, kindOf, statusOf, rulesOf, countsOf, bookOf, kindWords, statusWords};
 
 // The words of a state.
 pub const STATE_WORDS: usize = 27;
@@ -182,11 +179,11 @@ pub struct KindWords {
     pub detail: u64,
 }
 
-struct StatusWords {
-    status: u64,
-    last: u64,
-    offending: u64,
-    kind: KindWords,
+pub struct StatusWords {
+    pub status: u64,
+    pub last: u64,
+    pub offending: u64,
+    pub kind: KindWords,
 }
 
 pub fn kind_words(kind: InvalidationKind) -> KindWords
@@ -220,7 +217,7 @@ pub fn kind_words(kind: InvalidationKind) -> KindWords
     }
 }
 
-fn status_words(status: Status) -> StatusWords
+pub fn status_words(status: Status) -> StatusWords
     ensures { λ r. ⌜ r ≡ statusWords status ⌝ }
 {
     let none = KindWords {
@@ -254,69 +251,6 @@ fn status_words(status: Status) -> StatusWords
     }
 }
 
-// Writes words 6 to 12 where the call sets the status: a refusal leaves them, even where a status can be written in other words.
-fn store_status(words: &mut [u64], status: Status, sets: bool)
-    requires { ⌜ stateWords ≤ length (now words) ⌝ }
-    ensures { λ _. ⌜ now (words .exit) ≡ take 6 (now (words .entry)) ++ statusAfter (now (words .entry)) sets status ++ drop 13 (now (words .entry)) ⌝ }
-{
-    if !sets {
-        return;
-    }
-    let w = status_words(status);
-    let kind = w.kind;
-    put(
-        words,
-        6,
-        &[
-            w.status,
-            w.last,
-            w.offending,
-            kind.number,
-            kind.first,
-            kind.second,
-            kind.detail,
-        ],
-    );
-}
-
-// Writes words 13 to 26.
-fn store_rest(words: &mut [u64], book: BookReconstructor)
-    requires { ⌜ stateWords ≤ length (now words) ⌝ }
-    ensures { λ _. ⌜ now (words .exit) ≡ take 13 (now (words .entry)) ++ restList book ++ drop stateWords (now (words .entry)) ⌝ }
-{
-    let counts = book.counts;
-    put(
-        words,
-        13,
-        &[
-            book.rows as u64,
-            book.segments as u64,
-            counts.received,
-            counts.open,
-            counts.done,
-            counts.matched,
-            counts.stp_decrease,
-            counts.off_book_done,
-            counts.off_book_change,
-            counts.noop_change,
-            counts.handshake_dropped,
-            counts.skipped_while_invalid,
-            counts.wrong_product,
-            counts.rejected_snapshots,
-        ],
-    );
-}
-
-// Writes what a call may have changed of the state.
-pub fn store_book(words: &mut [u64], book: BookReconstructor, sets: bool)
-    requires { ⌜ stateWords ≤ length (now words) ⌝ }
-    ensures { λ _. ⌜ now (words .exit) ≡ restored (now (words .entry)) sets book ⌝ }
-{
-    let status = book.status;
-    store_status(words, status, sets);
-    store_rest(words, book);
-}
-
 // ---- a value from words
 
 // The word's bits as two's complement.
@@ -336,22 +270,5 @@ pub fn load_side(word: u64) -> L3Side
     match word {
         0 => L3Side::Buy,
         _ => L3Side::Sell,
-    }
-}
-
-// ---- an answer
-
-// Whether `apply` sets the status with this answer.
-pub fn sets_status(answer: ApplyAnswer) -> bool
-    ensures { λ r. ⌜ r ≡ setsStatus answer ⌝ }
-{
-    match answer {
-        ApplyAnswer::Applied(_) => true,
-        ApplyAnswer::Unusable(_) => false,
-        ApplyAnswer::AmountOutOfRange => false,
-        ApplyAnswer::WrongProduct => false,
-        ApplyAnswer::NotBootstrapped => false,
-        ApplyAnswer::Invalidated(_) => true,
-        ApplyAnswer::AwaitingSnapshot(_) => false,
     }
 }

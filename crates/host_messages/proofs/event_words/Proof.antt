@@ -1,5 +1,4 @@
--- By the event's kind: the code lists the same words in the same order as the definition, and each that it works out is promised by its callee. The one step
--- besides is that an amount survives being held as a word, which open and match need for `bits`.
+-- By the event's kind: each kind's function promises its words. The one step besides is that an amount survives being passed on, which open and match need.
 use mathlib.Core.Path.{_≡_}
 use mir.Syntax.{w64}
 use mir.Val.{toZ, ofZ}
@@ -8,27 +7,27 @@ use Rattle.host_messages.proofs.event_words.Statement.{statement}
 use Rattle.host_messages.proofs.event_words.Tie as tie
 
 returns : tie.Need-returns
-returns c = rw (c .before .before .event .given .1, c .side-word .ensures)
+returns c = rw (c .before .before .event .given .1) (c .received-words .ensures)
 
 returns-2 : tie.Need-returns-2
 returns-2 c =
-    let g = c .before .before .before .before .event2 .given in
+    let g = c .before .before .event2 .given in
     let p : toZ w64 (ofZ w64 (g .0 .1 .1 .0)) ≡ g .0 .1 .1 .0 = search needs in
     let q : toZ w64 (ofZ w64 (g .0 .1 .1 .1 .0)) ≡ g .0 .1 .1 .1 .0 = search needs in
-    rw (g .1, c .bits2 .ensures, c .before .bits .ensures, c .before .before .side-word2 .ensures, p, q)
+    rw (g .1) (rw (p, q) at (c .open-words .ensures))
 
 returns-3 : tie.Need-returns-3
-returns-3 c = rw (c .before .before .before .before .before .before .before .event3 .given .1) (cc)
+returns-3 c = rw (c .before .before .event3 .given .1) (c .done-words .ensures)
 
 returns-4 : tie.Need-returns-4
 returns-4 c =
-    let g = c .before .before .before .before .event4 .given in
+    let g = c .before .before .event4 .given in
     let p : toZ w64 (ofZ w64 (g .0 .1 .1 .1 .0)) ≡ g .0 .1 .1 .1 .0 = search needs in
     let q : toZ w64 (ofZ w64 (g .0 .1 .1 .1 .1 .0)) ≡ g .0 .1 .1 .1 .1 .0 = search needs in
-    rw (g .1, c .bits4 .ensures, c .before .bits3 .ensures, c .before .before .side-word4 .ensures, p, q)
+    rw (g .1) (rw (p, q) at (c .match-words .ensures))
 
 returns-5 : tie.Need-returns-5
-returns-5 c = rw (c .before .before .before .before .before .before .before .before .before .before .before .before .before .before .before .event5 .given .1) (cc)
+returns-5 c = rw (c .before .before .event5 .given .1) (c .change-words .ensures)
 
 returns-6 : tie.Need-returns-6
 returns-6 c = rw (c .before .event6 .given .1)
@@ -41,33 +40,11 @@ event-words-spec =
     (λ c κs. search needs)
     (λ c. search needs)
     (λ c κs. search needs)
-    (λ c κs. search needs)
+    (λ c. search needs)
     (λ c κs. search needs)
     (λ c. search needs)
     (λ c κs. search needs)
-    (λ c κs. search needs)
-    (λ c κs. search needs)
-    (λ c κs. search needs)
-    (λ c κs. search needs)
-    (λ c κs. search needs)
     (λ c. search needs)
-    (λ c κs. search needs)
-    (λ c κs. search needs)
-    (λ c κs. search needs)
-    (λ c. search needs)
-    (λ c κs. search needs)
-    (λ c κs. search needs)
-    (λ c κs. search needs)
-    (λ c κs. search needs)
-    (λ c κs. search needs)
-    (λ c κs. search needs)
-    (λ c κs. search needs)
-    (λ c κs. search needs)
-    (λ c κs. search needs)
-    (λ c κs. search needs)
-    (λ c κs. search needs)
-    (λ c κs. search needs)
-    (λ c κs. search needs)
     (λ c κs. search needs)
     (λ c. search needs)
     (λ c. search needs)

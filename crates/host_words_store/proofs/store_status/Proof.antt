@@ -1,9 +1,9 @@
 use denote.Ref.{now}
 use borrow.Author.Tests.{not-true, not-false}
 use borrow.Author.Needs.{needs}
 use Rattle.host_words.proofs.Blocks.{status-left}
-use Rattle.host_words.proofs.store_status.Statement.{statement}
-use Rattle.host_words.proofs.store_status.Tie as tie
+use Rattle.host_words_store.proofs.store_status.Statement.{statement}
+use Rattle.host_words_store.proofs.store_status.Tie as tie
 
 returns : tie.Need-returns
 returns c = rw (not-true (c .before .before .args .sets) (c .if1 .taken)) (status-left (now (c .before .before .args .words)))

@@ -3,15 +3,15 @@
 use Rattle.host_answers.specs.Answers.{Answered, answered, toldIn}
 use Rattle.piece.specs.Piece.{pieceNumber, readMessage}
 use Rattle.piece.specs.Words.{messageList, readMessageTold}
 use Rattle.host_pieces.proofs.Told.{given-none, given-all, length-message, piece-refused}
 use mathlib.Core.List.{[], _∷_, _++_}
 use mathlib.Core.Path.{_≡_, refl, sym, ap, _∙_}
 use lib.ListN.{length, drop}
 use denote.Ref.{now}
 use borrow.Author.Needs.{needs}
 use Rattle.host_words.proofs.Puts.{length-event, two-puts}
-use Rattle.host_pieces.proofs.read_message.Statement.{statement}
-use Rattle.host_pieces.proofs.read_message.Tie as tie
+use Rattle.host_pieces_message.proofs.read_message.Statement.{statement}
+use Rattle.host_pieces_message.proofs.read_message.Tie as tie
 
 returns : tie.Need-returns
 returns c =

@@ -2,8 +2,8 @@ use mathlib.Core.Path.{_≡_, _∙_, ap}
 use mir.Syntax.{w64}
 use mir.Val.{toZ, ofZ}
 use borrow.Author.Needs.{needs}
-use Rattle.host_messages.proofs.optional_bits.Statement.{statement}
-use Rattle.host_messages.proofs.optional_bits.Tie as tie
+use Rattle.host_message_values.proofs.optional_bits.Statement.{statement}
+use Rattle.host_message_values.proofs.optional_bits.Tie as tie
 
 returns-2 : tie.Need-returns-2
 returns-2 c =

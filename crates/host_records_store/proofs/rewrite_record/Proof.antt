@@ -1,8 +1,8 @@
 use mathlib.Core.Path.{_∙_}
 use borrow.Author.Needs.{needs}
 use Rattle.host_records.proofs.Records.{put-last, put-no-last}
-use Rattle.host_records.proofs.rewrite_record.Statement.{statement}
-use Rattle.host_records.proofs.rewrite_record.Tie as tie
+use Rattle.host_records_store.proofs.rewrite_record.Statement.{statement}
+use Rattle.host_records_store.proofs.rewrite_record.Tie as tie
 
 returns : tie.Need-returns
 returns c = c .before .before .put-record .ensures ∙ put-last _ _ _ (c .before .before .before .before .if1 .taken)

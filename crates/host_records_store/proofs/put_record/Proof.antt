@@ -1,8 +1,8 @@
 use Rattle.host_records.proofs.Records.{put-record, put-none}
 use mathlib.Core.Path.{_∙_}
 use borrow.Author.Needs.{needs}
-use Rattle.host_records.proofs.put_record.Statement.{statement}
-use Rattle.host_records.proofs.put_record.Tie as tie
+use Rattle.host_records_store.proofs.put_record.Statement.{statement}
+use Rattle.host_records_store.proofs.put_record.Tie as tie
 
 returns : tie.Need-returns
 returns c = c .before .before .set-record .ensures ∙ put-record (c .before .before .before .before .before .before .args .words .now) (c .before .before .before .before .before .before .args .place) (c .before .before .before .before .before .before .args .segment) (c .before .before .before .before .if1 .taken)

@@ -1,6 +1,6 @@
 use borrow.Author.Needs.{needs}
-use Rattle.host_estimate_words.proofs.give_ahead.Statement.{statement}
-use Rattle.host_estimate_words.proofs.give_ahead.Tie as tie
+use Rattle.host_ahead_words.proofs.give_ahead.Statement.{statement}
+use Rattle.host_ahead_words.proofs.give_ahead.Tie as tie
 
 returns : tie.Need-returns
 returns c =

@@ -1,7 +1,7 @@
 use borrow.Author.Needs.{needs}
 use Rattle.host_records.specs.Records.{setRecord}
-use Rattle.host_records.proofs.set_record.Statement.{statement}
-use Rattle.host_records.proofs.set_record.Tie as tie
+use Rattle.host_records_store.proofs.set_record.Statement.{statement}
+use Rattle.host_records_store.proofs.set_record.Tie as tie
 
 returns : tie.Need-returns
 unfolding setRecord

@@ -1,10 +1,10 @@
 use mathlib.Core.Path.{_∙_}
 use denote.Ref.{now}
 use borrow.Author.Needs.{needs}
 use Rattle.host_words.specs.Block.{restored, restList, statusAfter}
 use Rattle.host_words.proofs.Blocks.{length-after, two-stores}
-use Rattle.host_words.proofs.store_book.Statement.{statement}
-use Rattle.host_words.proofs.store_book.Tie as tie
+use Rattle.host_words_store.proofs.store_book.Statement.{statement}
+use Rattle.host_words_store.proofs.store_book.Tie as tie
 
 returns : tie.Need-returns
 unfolding restored

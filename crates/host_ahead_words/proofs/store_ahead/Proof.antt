@@ -1,8 +1,8 @@
 use mathlib.Core.Path.{sym}
 use Rattle.host_estimate_words.proofs.Refusals.{queue-refused}
 use borrow.Author.Needs.{needs}
-use Rattle.host_estimate_words.proofs.store_ahead.Statement.{statement}
-use Rattle.host_estimate_words.proofs.store_ahead.Tie as tie
+use Rattle.host_ahead_words.proofs.store_ahead.Statement.{statement}
+use Rattle.host_ahead_words.proofs.store_ahead.Tie as tie
 
 returns : tie.Need-returns
 returns c =
