@@ -36,14 +36,14 @@ Rattle.reconstructor_segments.specs.Segments lastSegment relast
 Rattle.reconstructor_segments.specs.declared.Segment Segment
 Rattle.reconstructor_segments.proofs.Segment as S
 Rattle.reconstructor_segments.proofs.Segment.Laws as S′
-Rattle.reconstructor_segments.proofs.append_segment as append
-Rattle.reconstructor_segments.proofs.last_segment as last-segment
-Rattle.reconstructor_segments.proofs.Put as put
-Rattle.reconstructor_segments.proofs.Calls Last reborrow reads-last passes-last puts-at
-Rattle.reconstructor_segments.proofs.Data Data row declared number one gives calls-one
+Rattle.reconstructor_segments_list.proofs.append_segment as append
+Rattle.reconstructor_segments_list.proofs.last_segment as last-segment
+Rattle.reconstructor_segments_list.proofs.Put as put
+Rattle.reconstructor_segments_list.proofs.Calls Last reborrow reads-last passes-last puts-at
+Rattle.reconstructor_segments_list.proofs.Data Data row declared number one gives calls-one
 Rattle.reconstructor_segments.proofs.Last length-relast
-Rattle.reconstructor_segments.proofs.Slices at val
-Rattle.reconstructor_segments.proofs.Walk Knows calls-said calls-plain
+Rattle.reconstructor_segments_list.proofs.Slices at val
+Rattle.reconstructor_segments_list.proofs.Walk Knows calls-said calls-plain
 """
 
 

@@ -37,9 +37,9 @@ pub fn apply(
     ensures { λ r. ⌜ (leaves r (memory (now (rows .exit))) (now (segments .exit)) ≡ applied ceiling book (memory (now (rows .entry))) (now (segments .entry)) message) × (answerTold (r .answer) ≡ answerTold (applied ceiling book (memory (now (rows .entry))) (now (segments .entry)) message .answer)) ⌝ }
 {
     let count = book.segment_count();
-    let last = reconstructor_segments::last_segment(segments, count);
+    let last = reconstructor_segments_list::last_segment(segments, count);
     let work = apply_by_value(book, rows, segments.len(), last, message);
     let segment = segment_of(work);
-    reconstructor_segments::rewrite_last(segments, count, segment);
+    reconstructor_segments_list::rewrite_last(segments, count, segment);
     reply_of(work)
 }

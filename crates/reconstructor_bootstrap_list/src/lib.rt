@@ -49,12 +49,12 @@ pub fn bootstrap(
     ensures { λ r. ⌜ (leaves r (memory (now (rows .exit))) (now (segments .exit)) ≡ bootstrapped ceiling book (memory (now (rows .entry))) (now (segments .entry)) (now (bytes .entry))) × (snapshotTold (r .answer) ≡ snapshotTold (bootstrapped ceiling book (memory (now (rows .entry))) (now (segments .entry)) (now (bytes .entry)) .answer)) ⌝ }
 {
     let count = book.segment_count();
-    let last = reconstructor_segments::last_segment(segments, count);
+    let last = reconstructor_segments_list::last_segment(segments, count);
     let work = bootstrap_by_value(book, rows, segments.len(), last, bytes);
     let segment = segment_of(work);
-    reconstructor_segments::rewrite_last(segments, count, segment);
+    reconstructor_segments_list::rewrite_last(segments, count, segment);
     let at = at_of(work);
     let started = started_of(work);
-    reconstructor_segments::append_segment(segments, at, started);
+    reconstructor_segments_list::append_segment(segments, at, started);
     reply_of(work)
 }

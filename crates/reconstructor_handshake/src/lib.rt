@@ -219,10 +219,10 @@ impl Handshake {
         ensures { λ r. ⌜ (stepLeaves r (memory (now (rows .exit))) (now (segments .exit)) ≡ stepped ceiling self book (memory (now (rows .entry))) (now (segments .entry)) message) × (stepTold (r .answer) ≡ stepTold (stepped ceiling self book (memory (now (rows .entry))) (now (segments .entry)) message .answer)) ⌝ }
     {
         let count = book.segment_count();
-        let last = reconstructor_segments::last_segment(segments, count);
+        let last = reconstructor_segments_list::last_segment(segments, count);
         let work = self.step_by_value(book, rows, segments.len(), last, message);
         let segment = segment_of(work);
-        reconstructor_segments::rewrite_last(segments, count, segment);
+        reconstructor_segments_list::rewrite_last(segments, count, segment);
         reply_of(work)
     }
 }

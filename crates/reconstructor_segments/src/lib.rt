@@ -1,8 +1,7 @@
-// Segment records in a lent list, and segment names.
+// Segment records and segment names.
 use reconstructor_answers::Invalidation;
 ghost use mathlib.Core.Path.{_≡_};
-ghost use lib.ListN.{set};
-ghost use Rattle.reconstructor_segments.specs.Segments.{noSegment, lastPlace, lastSegment, relast, started, superseded, extended, ended, elapsed, acceptedMessages, sameSegment};
+ghost use Rattle.reconstructor_segments.specs.Segments.{noSegment, started, superseded, extended, ended, elapsed, acceptedMessages, sameSegment};
 
 // A run of messages applied on one snapshot.
 pub struct Segment {
@@ -19,47 +18,6 @@ pub struct Segment {
     // The time of the first and of the latest accepted message; 0 until one is accepted.
     pub first_us: u64,
     pub last_us: u64,
-}
-
-// The place of the last of `count` records; past any list's end where there is none.
-fn last_place(count: usize) -> usize
-    ensures { λ r. ⌜ r ≡ lastPlace count ⌝ }
-{
-    if count == 0 {
-        return usize::MAX;
-    }
-    count - 1
-}
-
-// The last of a list's first `count` records; zeros where the list has no such record.
-pub fn last_segment(segments: &[Segment], count: usize) -> Segment
-    ensures { λ r. ⌜ r ≡ lastSegment (now (segments .entry)) count ⌝ }
-{
-    let at = last_place(count);
-    if at < segments.len() {
-        return segments[at];
-    }
-    Segment::none()
-}
-
-// Writes the last of a list's first `count` records; nothing where the list has no such record.
-pub fn rewrite_last(segments: &mut [Segment], count: usize, segment: Segment)
-    ensures { λ _. ⌜ now (segments .exit) ≡ relast (now (segments .entry)) count segment ⌝ }
-{
-    let last = last_place(count);
-    if last < segments.len() {
-        segments[last] = segment;
-    }
-}
-
-// Writes the record after a list's first `count`; nothing where there is no room.
-pub fn append_segment(segments: &mut [Segment], count: usize, segment: Segment)
-    ensures { λ _. ⌜ now (segments .exit) ≡ set (now (segments .entry)) count segment ⌝ }
-{
-    let at = count;
-    if at < segments.len() {
-        segments[at] = segment;
-    }
 }
 
 impl Segment {

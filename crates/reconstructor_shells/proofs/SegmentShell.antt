@@ -36,11 +36,11 @@ use Rattle.reconstructor_segments.specs.Segments.{lastSegment}
 use Rattle.reconstructor_segments.specs.declared.Segment.{Segment}
 use Rattle.reconstructor_segments.proofs.Segment as S
 use Rattle.reconstructor_segments.proofs.Segment.Laws as S′
-use Rattle.reconstructor_segments.proofs.last_segment as last-segment
-use Rattle.reconstructor_segments.proofs.Calls.{Last, passes-last}
-use Rattle.reconstructor_segments.proofs.Data.{Data, row, declared, number, one, gives, calls-one}
-use Rattle.reconstructor_segments.proofs.Slices.{at, val}
-use Rattle.reconstructor_segments.proofs.Walk.{Knows, calls-plain}
+use Rattle.reconstructor_segments_list.proofs.last_segment as last-segment
+use Rattle.reconstructor_segments_list.proofs.Calls.{Last, passes-last}
+use Rattle.reconstructor_segments_list.proofs.Data.{Data, row, declared, number, one, gives, calls-one}
+use Rattle.reconstructor_segments_list.proofs.Slices.{at, val}
+use Rattle.reconstructor_segments_list.proofs.Walk.{Knows, calls-plain}
 
 abbrev R : RattleType
 R = S.the-row

@@ -42,6 +42,6 @@ pub fn segment(book: BookReconstructor, segments: &[Segment], place: usize) -> S
     ensures { λ r. ⌜ (r ≡ segmentRead book (now (segments .entry)) place) × (segmentTold r ≡ segmentTold (segmentRead book (now (segments .entry)) place)) ⌝ }
 {
     let count = records_to(place);
-    let record = reconstructor_segments::last_segment(segments, count);
+    let record = reconstructor_segments_list::last_segment(segments, count);
     segment_by_value(book, segments.len(), place, record)
 }

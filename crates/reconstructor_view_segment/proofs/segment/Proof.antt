@@ -11,11 +11,11 @@ use denote.Enum.Declared as enums
 use denote.Enum.Laws as enum-laws
 use denote.Triple.Spec.{tripleOf}
 use denote.Triple.Table.{cited}
-use Rattle.reconstructor_segments.proofs.Data.{Data, declared}
-use Rattle.reconstructor_segments.proofs.Walk.{framed, met}
-use Rattle.reconstructor_segments.proofs.last_segment as last-segment
-use Rattle.reconstructor_segments.proofs.last_segment.Symbol as last-segment-def
-use Rattle.reconstructor_segments.proofs.last_segment.Met as last-segment-thm
+use Rattle.reconstructor_segments_list.proofs.Data.{Data, declared}
+use Rattle.reconstructor_segments_list.proofs.Walk.{framed, met}
+use Rattle.reconstructor_segments_list.proofs.last_segment as last-segment
+use Rattle.reconstructor_segments_list.proofs.last_segment.Symbol as last-segment-def
+use Rattle.reconstructor_segments_list.proofs.last_segment.Met as last-segment-thm
 use Rattle.reconstructor_view_segment.proofs.records_to as records-to
 use Rattle.reconstructor_view_segment.proofs.records_to.Symbol as records-to-def
 use Rattle.reconstructor_view_segment.proofs.records_to.Met as records-to-thm
@@ -58,6 +58,6 @@ segment-spec 𝓤 H 𝓜 𝓖 𝓡 =
     (shell.walks 𝓤 H A W (book 𝓤 H A W) (answer 𝓤 H A W) records-to-def.name last-segment-def.name by-value-def.name (tables 𝓤 H 𝓜 𝓡 code.env .C) (tables 𝓤 H 𝓜 𝓡 code.env .Λ) (framed 𝓤 H 𝓜 𝓖 𝓡 code.env)
     recordsTo (λ b n k g r. r ≡ segmentReadTo b n k g) (λ b ys k r. (r ≡ segmentRead b ys k) × (segmentTold r ≡ segmentTold (segmentRead b ys k)))
     (cited 𝓤 H (tripleOf 𝓤 H A records-to.signature (records-to.spec 𝓤 H A (𝓜 .mem) (𝓡 .run))) 𝓜 𝓡 code.env records-to-def.name records-to-def.routine code.calls-reconstructor-view-segment·records-to (records-to-thm.met 𝓤 H 𝓜 𝓖 𝓡))
-    (cited 𝓤 H (tripleOf 𝓤 H A last-segment.signature (last-segment.spec 𝓤 H A (𝓜 .mem) (𝓡 .run))) 𝓜 𝓡 code.env last-segment-def.name last-segment-def.routine code.calls-reconstructor-segments·last-segment (last-segment-thm.met 𝓤 H 𝓜 𝓖 𝓡))
+    (cited 𝓤 H (tripleOf 𝓤 H A last-segment.signature (last-segment.spec 𝓤 H A (𝓜 .mem) (𝓡 .run))) 𝓜 𝓡 code.env last-segment-def.name last-segment-def.routine code.calls-reconstructor-segments-list·last-segment (last-segment-thm.met 𝓤 H 𝓜 𝓖 𝓡))
     (cited 𝓤 H (tripleOf 𝓤 H A by-value.signature (by-value.spec 𝓤 H A (𝓜 .mem) (𝓡 .run))) 𝓜 𝓡 code.env by-value-def.name by-value-def.routine code.calls-reconstructor-view-segment·segment-by-value (by-value-thm.met 𝓤 H 𝓜 𝓖 𝓡))
     (λ b ys k r few e. let x = e ∙ read-by-value b ys k few in (x, ap segmentTold x)))

@@ -21,13 +21,13 @@ use Rattle.reconstructor_counts.proofs.MessageCounts as T
 use Rattle.reconstructor_counts.proofs.count as count
 use Rattle.reconstructor_counts.proofs.count.Symbol as count-def
 use Rattle.reconstructor_counts.proofs.count.Met as count-thm
-use Rattle.reconstructor_segments.proofs.Walk.{framed, met}
+use Rattle.reconstructor_segments_list.proofs.Walk.{framed, met}
 use Rattle.reconstructor_state.specs.declared.BookReconstructor.{BookReconstructor}
 use Rattle.reconstructor_state.specs.State.{withCounts}
 use Rattle.reconstructor_state.proofs.BookReconstructor as B
 use Rattle.reconstructor_state.proofs.BookReconstructor.Laws as B′
-use Rattle.reconstructor_state.proofs.CountingShell as shell
-use Rattle.reconstructor_state.proofs.CountingShell.{State}
+use Rattle.reconstructor_shells.proofs.CountingShell as shell
+use Rattle.reconstructor_shells.proofs.CountingShell.{State}
 use Rattle.reconstructor_state.proofs.BookReconstructor.counting.Key.{name}
 use Rattle.reconstructor_state.proofs.BookReconstructor.counting as f
 use Rattle.reconstructor_state.proofs.BookReconstructor.counting.Statement as stated

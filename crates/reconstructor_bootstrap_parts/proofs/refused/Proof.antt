@@ -1,6 +1,6 @@
 use borrow.Author.Needs.{needs}
-use Rattle.reconstructor_bootstrap_work.proofs.refused.Statement.{statement}
-use Rattle.reconstructor_bootstrap_work.proofs.refused.Tie as tie
+use Rattle.reconstructor_bootstrap_parts.proofs.refused.Statement.{statement}
+use Rattle.reconstructor_bootstrap_parts.proofs.refused.Tie as tie
 
 returns : tie.Need-returns
 returns c = rw (c .none .ensures, c .before .refused-book .ensures)

@@ -38,23 +38,23 @@ use denote.Triple.Spec.{tripleOf}
 use denote.Triple.Table.{cited}
 use denote.Triple.Walked.{says, Stays, stay-dropped, walkOf, goes-dropped, ends-at, walked}
 use denote.Exit.{yes}
 use Rattle.reconstructor_segments.specs.Segments.{noSegment, lastPlace}
 use Rattle.reconstructor_segments.specs.declared.Segment.{Segment}
-use Rattle.reconstructor_segments.proofs.Data.{number, calls-one}
+use Rattle.reconstructor_segments_list.proofs.Data.{number, calls-one}
 use Rattle.reconstructor_segments.proofs.Last.{last-placed}
 use Rattle.reconstructor_segments.proofs.Segment as T
 use Rattle.reconstructor_segments.proofs.Segment.Laws as T′
-use Rattle.reconstructor_segments.proofs.Walk.{Knows, calls-plain, if-then, framed, met}
-use Rattle.reconstructor_segments.proofs.last_place as last-place
-use Rattle.reconstructor_segments.proofs.last_place.Symbol as last-place-def
-use Rattle.reconstructor_segments.proofs.last_place.Met as last-place-thm
+use Rattle.reconstructor_segments_list.proofs.Walk.{Knows, calls-plain, if-then, framed, met}
+use Rattle.reconstructor_segments_list.proofs.last_place as last-place
+use Rattle.reconstructor_segments_list.proofs.last_place.Symbol as last-place-def
+use Rattle.reconstructor_segments_list.proofs.last_place.Met as last-place-thm
 use Rattle.reconstructor_segments.proofs.Segment.none as none
 use Rattle.reconstructor_segments.proofs.Segment.none.Symbol as none-def
 use Rattle.reconstructor_segments.proofs.Segment.none.Met as none-thm
-use Rattle.reconstructor_segments.proofs.last_segment.Key.{name}
-use Rattle.reconstructor_segments.proofs.last_segment as f
-use Rattle.reconstructor_segments.proofs.last_segment.Statement as stated
-use Rattle.reconstructor_segments.proofs.last_segment.Code as code
+use Rattle.reconstructor_segments_list.proofs.last_segment.Key.{name}
+use Rattle.reconstructor_segments_list.proofs.last_segment as f
+use Rattle.reconstructor_segments_list.proofs.last_segment.Statement as stated
+use Rattle.reconstructor_segments_list.proofs.last_segment.Code as code
 
 abbrev R : RattleType
 R = T.the-row
@@ -139,5 +139,5 @@ last-segment-spec 𝓤 H 𝓜 𝓖 𝓡 =
     (walked 𝓤 H (𝓖 .A) f.ended stayed (f.clauses 𝓤 H (𝓖 .A) (𝓜 .mem) (𝓡 .run)) (WpFn 𝓤 H (tables 𝓤 H 𝓜 𝓡 code.env .C) (tables 𝓤 H 𝓜 𝓡 code.env .Λ) code.function)
     (λ κs. (slice-vals, (uint-vals w64, tt))) (λ κs. (shr-slice-tells (named 0) (κs .0) R, (uint-tells w64, tt))) (λ κs qs bounds a _ are. via 𝓤 _ (fst∗ 𝓤 _ (emp 𝓤))
     (walk 𝓤 H (𝓖 .A) W (𝓜 .mem) (𝓡 .run) (κs .0) (qs .0) (a .0 .ptr .0) (a .0 .ptr .1) (a .0 .name) (a .0 .now) (a .1 .0) (are .1 .0 .1) (are .0 .0 .1) (tables 𝓤 H 𝓜 𝓡 code.env .C) (tables 𝓤 H 𝓜 𝓡 code.env .Λ) (framed 𝓤 H 𝓜 𝓖 𝓡 code.env)
-    (cited 𝓤 H (tripleOf 𝓤 H (𝓖 .A) last-place.signature (last-place.spec 𝓤 H (𝓖 .A) (𝓜 .mem) (𝓡 .run))) 𝓜 𝓡 code.env last-place-def.name last-place-def.routine code.calls-reconstructor-segments·last-place (last-place-thm.met 𝓤 H 𝓜 𝓖 𝓡))
+    (cited 𝓤 H (tripleOf 𝓤 H (𝓖 .A) last-place.signature (last-place.spec 𝓤 H (𝓖 .A) (𝓜 .mem) (𝓡 .run))) 𝓜 𝓡 code.env last-place-def.name last-place-def.routine code.calls-reconstructor-segments-list·last-place (last-place-thm.met 𝓤 H 𝓜 𝓖 𝓡))
     (cited 𝓤 H (tripleOf 𝓤 H (𝓖 .A) none.signature (none.spec 𝓤 H (𝓖 .A) (𝓜 .mem) (𝓡 .run))) 𝓜 𝓡 code.env none-def.name none-def.routine code.calls-reconstructor-segments·Segment·none (none-thm.met 𝓤 H 𝓜 𝓖 𝓡)))))

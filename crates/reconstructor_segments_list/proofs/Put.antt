@@ -37,13 +37,13 @@ use denote.Triple.Clauses.{Clauses}
 use denote.Triple.Entry.{onEntry}
 use denote.Triple.Walked.{says, Stays, stay-dropped, stay-slice, walkOf, AllGo, goes-dropped, goes-slice, Walks, ends-at, walked}
 use denote.Exit.{yes}
 use Rattle.reconstructor_segments.specs.Segments.{noSegment}
 use Rattle.reconstructor_segments.specs.declared.Segment.{Segment}
 use Rattle.reconstructor_segments.proofs.Segment as T
 use Rattle.reconstructor_segments.proofs.Segment.Laws as T′
-use Rattle.reconstructor_segments.proofs.Slices as slices
-use Rattle.reconstructor_segments.proofs.Walk.{if-then}
-use Rattle.reconstructor_segments.proofs.append_segment as f
+use Rattle.reconstructor_segments_list.proofs.Slices as slices
+use Rattle.reconstructor_segments_list.proofs.Walk.{if-then}
+use Rattle.reconstructor_segments_list.proofs.append_segment as f
 
 abbrev R : RattleType
 R = T.the-row

@@ -30,7 +30,7 @@ use denote.Struct.Declared as Decl
 use denote.Struct.Laws as LL
 use denote.Struct.Struct.{Plains}
 use denote.Triple.Clauses.{Clauses, Ended}
-use Rattle.reconstructor_segments.proofs.Walk.{Knows, calls-plain}
+use Rattle.reconstructor_segments_list.proofs.Walk.{Knows, calls-plain}
 
 pub record Data {M : Type 1} (𝓤 : URA M) (H : Heap 𝓤) (A : Atoms 𝓤) : Type 2 where
   pub R : RattleType

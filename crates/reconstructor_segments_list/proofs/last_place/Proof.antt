@@ -1,7 +1,7 @@
 use borrow.Author.Needs.{needs}
 use Rattle.reconstructor_segments.proofs.Last.{place-last}
-use Rattle.reconstructor_segments.proofs.last_place.Statement.{statement}
-use Rattle.reconstructor_segments.proofs.last_place.Tie as tie
+use Rattle.reconstructor_segments_list.proofs.last_place.Statement.{statement}
+use Rattle.reconstructor_segments_list.proofs.last_place.Tie as tie
 
 returns : tie.Need-returns
 returns c = rw (c .if1 .taken)

@@ -1,6 +1,6 @@
 use borrow.Author.Needs.{needs}
-use Rattle.reconstructor_bootstrap_work.proofs.refused_book.Statement.{statement}
-use Rattle.reconstructor_bootstrap_work.proofs.refused_book.Tie as tie
+use Rattle.reconstructor_bootstrap_parts.proofs.refused_book.Statement.{statement}
+use Rattle.reconstructor_bootstrap_parts.proofs.refused_book.Tie as tie
 
 returns : tie.Need-returns
 returns c = rw (c .enum-told .given .1)

@@ -7,12 +7,12 @@ use contract.Running.{givenOf, tables}
 use lib.ListN.{set}
 use types.Kit.{ ! }
 use types.Run.{look, init, stop, from, load, of-opd, assigns}
-use Rattle.reconstructor_segments.proofs.Put as put
-use Rattle.reconstructor_segments.proofs.Walk.{met}
-use Rattle.reconstructor_segments.proofs.append_segment.Key.{name}
-use Rattle.reconstructor_segments.proofs.append_segment as f
-use Rattle.reconstructor_segments.proofs.append_segment.Statement as stated
-use Rattle.reconstructor_segments.proofs.append_segment.Code as code
+use Rattle.reconstructor_segments_list.proofs.Put as put
+use Rattle.reconstructor_segments_list.proofs.Walk.{met}
+use Rattle.reconstructor_segments_list.proofs.append_segment.Key.{name}
+use Rattle.reconstructor_segments_list.proofs.append_segment as f
+use Rattle.reconstructor_segments_list.proofs.append_segment.Statement as stated
+use Rattle.reconstructor_segments_list.proofs.append_segment.Code as code
 
 pub append-segment-spec : {M : Type 1} → stated.statement M
 unfolding code.routine

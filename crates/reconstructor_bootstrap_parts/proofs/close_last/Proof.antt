@@ -1,7 +1,7 @@
 use borrow.Author.Needs.{needs}
 use Rattle.reconstructor_bootstrap.specs.Bootstrap.{closed}
-use Rattle.reconstructor_bootstrap_work.proofs.close_last.Statement.{statement}
-use Rattle.reconstructor_bootstrap_work.proofs.close_last.Tie as tie
+use Rattle.reconstructor_bootstrap_parts.proofs.close_last.Statement.{statement}
+use Rattle.reconstructor_bootstrap_parts.proofs.close_last.Tie as tie
 
 returns : tie.Need-returns
 unfolding closed

@@ -45,9 +45,9 @@ use Rattle.reconstructor_counts.proofs.count as count
 use Rattle.reconstructor_counts.proofs.Values.{R, K, counts-val, counter-val, counts-made, counter-made, counter-lawful}
 use Rattle.reconstructor_counts.proofs.Counter as C′
 use Rattle.reconstructor_counts.proofs.Counter.Laws as C″
-use Rattle.reconstructor_segments.proofs.Data.{Data, row}
-use Rattle.reconstructor_segments.proofs.Walk.{Knows, calls-said}
-use Rattle.reconstructor_state.proofs.Lent.{lends, back}
+use Rattle.reconstructor_segments_list.proofs.Data.{Data, row}
+use Rattle.reconstructor_segments_list.proofs.Walk.{Knows, calls-said}
+use Rattle.reconstructor_shells.proofs.Lent.{lends, back}
 
 pub record State {M : Type 1} (𝓤 : URA M) (H : Heap 𝓤) (A : Atoms 𝓤) : Type 2 where
   pub R : RattleType

@@ -11,8 +11,8 @@ use Rattle.reconstructor_bootstrap.specs.Bootstrap.{booted}
 use Rattle.reconstructor_checks.proofs.StateChecks.{orders-within}
 use Rattle.reconstructor_bootstrap.proofs.InTurn.{said, said-none}
 use Rattle.reconstructor_bootstrap.proofs.Whole.{list-full, snapshot-refused, snapshot-fits, few-orders, room-for, segment-room}
-use Rattle.reconstructor_bootstrap_work.proofs.bootstrap_usable.Statement.{statement}
-use Rattle.reconstructor_bootstrap_work.proofs.bootstrap_usable.Tie as tie
+use Rattle.reconstructor_bootstrap_usable.proofs.bootstrap_usable.Statement.{statement}
+use Rattle.reconstructor_bootstrap_usable.proofs.bootstrap_usable.Tie as tie
 
 returns : tie.Need-returns
 returns c =

@@ -29,15 +29,15 @@ use denote.Slice.{sliceVal, MutSlice, ShrSlice, Room}
 use denote.Steps.{owned, nothing}
 use denote.Struct.Laws as LL
 use denote.Triple.Clauses.{Clauses}
 use Rattle.reconstructor_segments.specs.Segments.{lastSegment}
 use Rattle.reconstructor_segments.specs.declared.Segment.{Segment}
-use Rattle.reconstructor_segments.proofs.Put.{Says}
+use Rattle.reconstructor_segments_list.proofs.Put.{Says}
 use Rattle.reconstructor_segments.proofs.Segment as T
 use Rattle.reconstructor_segments.proofs.Segment.Laws as T′
-use Rattle.reconstructor_segments.proofs.Slices.{at, val, lends-shr, back-shr, lends-mut, back-mut}
-use Rattle.reconstructor_segments.proofs.Walk.{Knows, calls-said}
-use Rattle.reconstructor_segments.proofs.append_segment as append
-use Rattle.reconstructor_segments.proofs.last_segment as last
+use Rattle.reconstructor_segments_list.proofs.Slices.{at, val, lends-shr, back-shr, lends-mut, back-mut}
+use Rattle.reconstructor_segments_list.proofs.Walk.{Knows, calls-said}
+use Rattle.reconstructor_segments_list.proofs.append_segment as append
+use Rattle.reconstructor_segments_list.proofs.last_segment as last
 
 abbrev R : RattleType
 R = T.the-row

@@ -6,8 +6,8 @@ use Rattle.book.specs.Memory.{memory}
 use Rattle.reconstructor_bootstrap.specs.Bootstrap.{bootedBook}
 use Rattle.reconstructor_bootstrap.proofs.Places.{line-places}
 use Rattle.reconstructor_bootstrap.proofs.Whole.{booted-path, length-snapshot}
-use Rattle.reconstructor_bootstrap_work.proofs.accept.Statement.{statement}
-use Rattle.reconstructor_bootstrap_work.proofs.accept.Tie as tie
+use Rattle.reconstructor_bootstrap_usable.proofs.accept.Statement.{statement}
+use Rattle.reconstructor_bootstrap_usable.proofs.accept.Tie as tie
 
 returns : tie.Need-returns
 returns c =
