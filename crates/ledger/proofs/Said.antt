@@ -34,8 +34,8 @@ use Rattle.reconstructor_reads.specs.declared.Shown.the-variants.{Entries, Outp
 use Rattle.reconstructor_reads.specs.declared.LevelAnswer.the-variants as levels
 use Rattle.reconstructor_reads.specs.declared.StaleAnswer.the-variants as stales
 use Rattle.reconstructor_reads.specs.LevelReads.{queueWords, profileWords, l2Words, Content, queueContent, levelsContent, Shows, shows, shown, levelRead, scratchShort, staleRead, levelQueue, priorityProfile, staleL2}
-use Rattle.reconstructor_reads.specs.Said.{queueSaid, profileSaid, l2Said}
-use Rattle.reconstructor_reads.proofs.Laws.{volumesAt, queue-said, profile-said, l2-said}
+use Rattle.reconstructor_reads.specs.Said.{queueSaid, profileSaid, l2Said, volumesAt}
+use Rattle.reconstructor_reads.proofs.Laws.{queue-said, profile-said, l2-said}
 use Rattle.ledger.proofs.Stands.{rows-front}
 
 -- a read that shows k entries has written the content's words, so many

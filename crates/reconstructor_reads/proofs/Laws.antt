@@ -2,7 +2,7 @@
 -- Assumes nothing.
 use Prim.Native.Nat.{ℕ, _≤_, _<_, _^_}
 use mathlib.Core.Path.{_≡_, refl, ap, _∙_}
-use mathlib.Core.List.{List, [], _∷_, map}
+use mathlib.Core.List.{List, [], _∷_}
 use native.Mathlib.Omega.{arith}
 use Rattle.message.specs.declared.L3Side.{L3Side}
 use Rattle.message.specs.declared.OrderId.{OrderId}
@@ -19,7 +19,7 @@ use Rattle.reconstructor_state.specs.declared.BookReconstructor.{BookReconstruc
 use Rattle.reconstructor_checks.specs.StateChecks.{Trusted}
 use Rattle.reconstructor_checks.proofs.StateChecks.{sound, orders-within}
 use Rattle.reconstructor_reads.specs.LevelReads.{profileWords, l2Words, queueContent, levelsContent}
-use Rattle.reconstructor_reads.specs.Said.{queueSaid, l2Said, profileSaid}
+use Rattle.reconstructor_reads.specs.Said.{queueSaid, l2Said, profileSaid, volumesAt}
 
 -- ---- `level_queue`: the id and remaining of each entry of five words are the line's queue there
 
@@ -31,10 +31,6 @@ pub queue-said : (s : L3Side) (p : ℕ) (os : List Resting) → queueSaid (queue
 queue-said s p os = said-entries (rowsAt s p os) ∙ queue-read s p os
 
 -- ---- `l2`, `stale_l2` and `priority_profile`: the prices and totals are the line's prices of that side and its volumes there
-
--- the volumes of a line at some prices
-abbrev pub volumesAt : L3Side → List Resting → List ℕ → List (ℕ × ℕ)
-volumesAt s os ps = map (λ (p : ℕ). (p, volume s p (lineOf os))) ps
 
 said-l2 : (s : L3Side) (os : List Resting) (ps : List ℕ) → l2Said (levelsWords l2Words s os ps) ≡ volumesAt s os ps
 said-l2 s os [] = refl

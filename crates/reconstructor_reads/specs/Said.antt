@@ -1,7 +1,11 @@
 -- What the words of a level read say: the orders, or the prices and volumes, that a host reads off them.
 use Prim.Native.Nat.{ℕ}
-use mathlib.Core.List.{List, [], _∷_}
+use mathlib.Core.List.{List, [], _∷_, map}
+use Rattle.message.specs.declared.L3Side.{L3Side}
 use Rattle.message.specs.declared.OrderId.{OrderId}
+use Rattle.book.specs.declared.Resting.{Resting}
+use Rattle.book.specs.Line.{volume}
+use Rattle.book.specs.Rows.{lineOf}
 
 -- `level_queue`, five words an entry: id and remaining
 abbrev pub queueSaid : List ℕ → List (OrderId × ℕ)
@@ -23,3 +27,7 @@ profileSaid (price ∷ total ∷ unknown ∷ ws) = (price, total) ∷ profileSai
 profileSaid [] = []
 profileSaid (price ∷ []) = []
 profileSaid (price ∷ total ∷ []) = []
+
+-- the volumes of a line at some prices
+abbrev pub volumesAt : L3Side → List Resting → List ℕ → List (ℕ × ℕ)
+volumesAt s os ps = map (λ (p : ℕ). (p, volume s p (lineOf os))) ps
