@@ -1,13 +1,43 @@
 // The calls: each prints its line from the number on.
+use crate::memory::AHEAD;
+use crate::memory::OUTPUT;
+use crate::memory::SCRATCH;
 use crate::memory::digest;
 use crate::memory::fill;
 use crate::memory::word;
 use crate::print;
+use book_queue::AHEAD_ENTRY_WORDS;
+use book_queue::QUEUE_WORDS;
+use host_estimate_words::ESTIMATE_WORDS;
+use host_handshake::HANDSHAKE_WORDS;
 use recorded::Header;
-use recorded::apply_piece;
 use recorded::least;
 use recorded::load;
-use recorded::step_piece;
+use recorded_pieces::apply_piece;
+use recorded_pieces::step_piece;
+
+// Bytes of a word.
+const WORD_BYTES: usize = 8;
+
+// Words that the calls give, by include/pinuglaw.h: values, and an entry of each level read that crate `book_queue` does not name.
+const LAST_SEQUENCE_WORDS: usize = 1;
+
+const BEST_WORDS: usize = 4;
+
+const INVALIDATION_WORDS: usize = 6;
+
+const RECORD_WORDS: usize = 10;
+
+const COUNT_WORDS: usize = 1;
+
+const PROFILE_WORDS: usize = 3;
+
+const L2_WORDS: usize = 2;
+
+const VOLUME_WORDS: usize = 7;
+
+// The word of an estimate that has how many orders its list has.
+const ESTIMATE_ORDERS: usize = 5;
 
 // A new book: the first words of its state as recorded, the rest 0; the rows hold what the seed gives, the segments 0.
 pub fn create(
@@ -56,7 +86,7 @@ pub fn apply(payload: &[u8], state: &mut [u64], rows: &mut [u64], segments: &mut
 
 // Makes a handshake of the segment that the book is in.
 pub fn begin(state: &[u64]) {
-    let mut value = [0u64; 4];
+    let mut value = [0u64; HANDSHAKE_WORDS];
     let number = host::pinuglaw_handshake(state, &mut value);
     show(number, state, &value);
     print::end();
@@ -64,12 +94,12 @@ pub fn begin(state: &[u64]) {
 
 // A step of the recorded handshake: its four words, and then the piece.
 pub fn step(payload: &[u8], state: &mut [u64], rows: &mut [u64], segments: &mut [u64]) {
-    let mut value = [0u64; 4];
-    let head = least(32, payload.len());
+    let mut value = [0u64; HANDSHAKE_WORDS];
+    let head = least(WORD_BYTES * HANDSHAKE_WORDS, payload.len());
     load(&mut value, 0, payload);
     let number = step_piece(&payload[head..], state, rows, segments, &mut value);
     print::answer(number, state);
-    print::words(&value, 4);
+    print::words(&value, HANDSHAKE_WORDS);
     print::book(state, rows, segments);
 }
 
@@ -82,14 +112,14 @@ fn show(number: u64, state: &[u64], words: &[u64]) {
 }
 
 pub fn last_sequence(state: &[u64], rows: &[u64]) {
-    let mut out = [0u64; 1];
+    let mut out = [0u64; LAST_SEQUENCE_WORDS];
     let number = host::pinuglaw_last_sequence(state, rows, &mut out);
     show(number, state, &out);
     print::end();
 }
 
 pub fn best(state: &[u64], rows: &[u64]) {
-    let mut out = [0u64; 4];
+    let mut out = [0u64; BEST_WORDS];
     let number = host::pinuglaw_best(state, rows, &mut out);
     show(number, state, &out);
     print::end();
@@ -101,14 +131,14 @@ pub fn audit(state: &[u64], rows: &[u64]) {
 }
 
 pub fn invalidation(state: &[u64]) {
-    let mut out = [0u64; 6];
+    let mut out = [0u64; INVALIDATION_WORDS];
     let number = host::pinuglaw_invalidation(state, &mut out);
     show(number, state, &out);
     print::end();
 }
 
 pub fn segment(h: Header, state: &[u64], segments: &[u64]) {
-    let mut out = [0u64; 10];
+    let mut out = [0u64; RECORD_WORDS];
     let number = host::pinuglaw_segment(state, segments, h.first as usize, &mut out);
     show(number, state, &out);
     print::end();
@@ -133,17 +163,17 @@ fn level_call(
 
 // The words of so many entries.
 fn entry_words(operation: u64, entries: u64) -> usize {
-    let n = least(entries as usize, 1280);
+    let n = least(entries as usize, OUTPUT);
     match operation {
-        9 => 5 * n,
-        10 => 3 * n,
-        _ => 2 * n,
+        9 => QUEUE_WORDS * n,
+        10 => PROFILE_WORDS * n,
+        _ => L2_WORDS * n,
     }
 }
 
 // A level read with these buffers.
 fn level_lent(h: Header, state: &[u64], rows: &[u64], scratch: &mut [u64], out: &mut [u64]) {
-    let mut count = [0u64; 1];
+    let mut count = [0u64; COUNT_WORDS];
     fill(scratch, 1);
     fill(out, 2);
     let number = level_call(h, state, rows, scratch, out, &mut count);
@@ -164,18 +194,22 @@ fn level_lend(h: Header, state: &[u64], rows: &[u64], scratch: &mut [u64], out: 
 }
 
 pub fn level_read(h: Header, state: &[u64], rows: &[u64]) {
-    let mut scratch = [0u64; 256];
-    let mut out = [0u64; 1280];
+    let mut scratch = [0u64; SCRATCH];
+    let mut out = [0u64; OUTPUT];
     level_lend(h, state, rows, &mut scratch, &mut out);
 }
 
 fn estimate_lent(h: Header, state: &[u64], rows: &[u64], ahead: &mut [u64]) {
-    let mut estimate = [0u64; 8];
+    let mut estimate = [0u64; ESTIMATE_WORDS];
     fill(ahead, 3);
     let number = host::pinuglaw_queue_estimate(state, rows, h.which, h.first, ahead, &mut estimate);
     show(number, state, &estimate);
     if number == 0 {
-        print::words(ahead, 3 * least(word(&estimate, 5) as usize, 256));
+        let orders = word(&estimate, ESTIMATE_ORDERS) as usize;
+        print::words(
+            ahead,
+            AHEAD_ENTRY_WORDS * least(orders, AHEAD / AHEAD_ENTRY_WORDS),
+        );
     }
     print::digests();
     print::number(digest(ahead));
@@ -188,12 +222,12 @@ fn estimate_lend(h: Header, state: &[u64], rows: &[u64], ahead: &mut [u64]) {
 }
 
 pub fn queue_estimate(h: Header, state: &[u64], rows: &[u64]) {
-    let mut ahead = [0u64; 768];
+    let mut ahead = [0u64; AHEAD];
     estimate_lend(h, state, rows, &mut ahead);
 }
 
 pub fn queue_estimate_own(h: Header, state: &[u64], rows: &[u64]) {
-    let mut estimate = [0u64; 8];
+    let mut estimate = [0u64; ESTIMATE_WORDS];
     let number = host::pinuglaw_queue_estimate_own(state, rows, h.first, h.second, &mut estimate);
     show(number, state, &estimate);
     print::end();
@@ -209,16 +243,16 @@ fn ahead_lend(
     out: &mut [u64],
 ) -> u64 {
     load(list, 0, bytes);
-    let n = least(bytes.len() / 8, list.len());
+    let n = least(bytes.len() / WORD_BYTES, list.len());
     host::pinuglaw_volume_ahead(state, rows, estimate, &list[..n], out)
 }
 
 // The volume ahead of the recorded estimate: its eight words, and then its list.
 pub fn volume_ahead(payload: &[u8], state: &[u64], rows: &[u64]) {
-    let mut estimate = [0u64; 8];
-    let mut list = [0u64; 768];
-    let mut out = [0u64; 7];
-    let head = least(64, payload.len());
+    let mut estimate = [0u64; ESTIMATE_WORDS];
+    let mut list = [0u64; AHEAD];
+    let mut out = [0u64; VOLUME_WORDS];
+    let head = least(WORD_BYTES * ESTIMATE_WORDS, payload.len());
     load(&mut estimate, 0, payload);
     let number = ahead_lend(
         &payload[head..],

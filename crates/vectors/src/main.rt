@@ -5,10 +5,17 @@ mod calls;
 mod memory;
 mod print;
 
+use crate::memory::ROWS;
+use crate::memory::SEGMENTS;
+use host_words::STATE_WORDS;
 use libc::STDIN_FILENO;
+use recorded::HEADER_BYTES;
 use recorded::Header;
 use recorded::least;
 use recorded::read_header;
+
+// The most input that is read: the recorded calls have less.
+const INPUT_BYTES: usize = 524288;
 
 // A call that may change the book, or that makes a handshake.
 fn change(h: Header, payload: &[u8], state: &mut [u64], rows: &mut [u64], segments: &mut [u64]) {
@@ -59,12 +66,12 @@ fn lend(h: Header, payload: &[u8], state: &mut [u64], rows: &mut [u64], segments
 
 // Every call of the input, up to one that it does not hold whole.
 fn replay(input: &[u8]) {
-    let mut state = [0u64; 27];
-    let mut rows = [0u64; 2048];
-    let mut segments = [0u64; 512];
+    let mut state = [0u64; STATE_WORDS];
+    let mut rows = [0u64; ROWS];
+    let mut segments = [0u64; SEGMENTS];
     let mut at: usize = 0;
-    while 32 <= input.len() - at {
-        let start = at + 32;
+    while HEADER_BYTES <= input.len() - at {
+        let start = at + HEADER_BYTES;
         let h = read_header(&input[at..start]);
         let n = h.payload;
         if input.len() - start < n {
@@ -77,7 +84,7 @@ fn replay(input: &[u8]) {
 }
 
 fn main() {
-    let mut input = [0u8; 524288];
+    let mut input = [0u8; INPUT_BYTES];
     let n = io::read_full(STDIN_FILENO, &mut input);
     replay(&input[..n]);
 }

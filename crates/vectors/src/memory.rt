@@ -2,6 +2,17 @@
 use std::num::wrapping_add_u64;
 ghost use Prim.Native.Nat.{_<_};
 
+// The most words that a call is lent: specs/Format.antt of crate `recorded` has them.
+pub const ROWS: usize = 2048;
+
+pub const SEGMENTS: usize = 512;
+
+pub const SCRATCH: usize = 256;
+
+pub const OUTPUT: usize = 1280;
+
+pub const AHEAD: usize = 768;
+
 fn low(x: u64) -> u64
     ensures { λ r. ⌜ r < 4294967296 ⌝ }
 {

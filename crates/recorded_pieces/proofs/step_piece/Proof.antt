@@ -2,10 +2,10 @@
 -- nothing touched; at 0 `pinuglaw_step` is called with these words.
 use denote.Ref.{now}
 use Rattle.host_calls.specs.Calls.{stepCalled, stepCall}
-use Rattle.recorded.proofs.Read.{turned-away, goes-on}
+use Rattle.recorded_pieces.proofs.Read.{turned-away, goes-on}
 use borrow.Author.Needs.{needs}
-use Rattle.recorded.proofs.step_piece.Statement.{statement}
-use Rattle.recorded.proofs.step_piece.Tie as tie
+use Rattle.recorded_pieces.proofs.step_piece.Statement.{statement}
+use Rattle.recorded_pieces.proofs.step_piece.Tie as tie
 
 returns : tie.Need-returns
 returns c =

@@ -5,7 +5,7 @@ use mathlib.Core.List.{List}
 use borrow.Author.Tests.{eq-eqb, ne-eqb}
 use Rattle.piece.specs.Piece.{readMessage}
 use Rattle.host_pieces.specs.Pieces.{messageNumber, messageOut}
-use Rattle.recorded.specs.Pieces.{blank, readNumber, readWords, ifRead}
+use Rattle.recorded_pieces.specs.Pieces.{blank, readNumber, readWords, ifRead}
 
 number-read : (bytes : List ℕ) → messageNumber blank (readMessage bytes) ≡ readNumber bytes
 unfolding readNumber

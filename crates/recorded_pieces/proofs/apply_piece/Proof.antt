@@ -1,11 +1,11 @@
 -- The reader's number and words are those of the definition, which reads into 21 zeros too. A number other than 0 is the answer and nothing is touched; at 0
 -- the words are the message, and the call applies it.
 use Rattle.host_calls.specs.Calls.{called, applyCall}
-use Rattle.recorded.proofs.Read.{turned-away, goes-on}
+use Rattle.recorded_pieces.proofs.Read.{turned-away, goes-on}
 use denote.Ref.{now}
 use borrow.Author.Needs.{needs}
-use Rattle.recorded.proofs.apply_piece.Statement.{statement}
-use Rattle.recorded.proofs.apply_piece.Tie as tie
+use Rattle.recorded_pieces.proofs.apply_piece.Statement.{statement}
+use Rattle.recorded_pieces.proofs.apply_piece.Tie as tie
 
 returns : tie.Need-returns
 returns c =
