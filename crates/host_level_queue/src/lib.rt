@@ -1,5 +1,5 @@
 // The read of the orders at one level, of a valid book whose state is words, which `host` exports.
-use host_answers::store_level;
+use host_level_answers::store_level;
 use host_level_stops::level_stop;
 use host_words::load_book;
 use host_words::load_side;

@@ -1,5 +1,5 @@
 // The reads of all levels of a side, of a valid book whose state is words: those that `host` exports.
-use host_answers::store_level;
+use host_level_answers::store_level;
 use host_level_stops::level_stop;
 use host_words::load_book;
 use host_words::load_side;

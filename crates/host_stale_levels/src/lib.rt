@@ -1,6 +1,6 @@
 // The level read of an invalid book whose state is words, which `host` exports.
-use host_answers::store_stale;
 use host_boundary::boundary;
+use host_level_answers::store_stale;
 use host_word_tests::no_bit;
 use host_word_tests::scratch_short;
 use host_words::load_book;

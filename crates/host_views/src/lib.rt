@@ -1,10 +1,10 @@
 // The reads of a book whose state is words, those whose answer is a value: of those that `host` exports.
-use host_answers::store_best;
-use host_answers::store_invalidation;
-use host_answers::store_last;
-use host_answers::store_segment;
 use host_boundary::boundary;
 use host_boundary::own_boundary;
+use host_view_answers::store_best;
+use host_view_answers::store_invalidation;
+use host_view_answers::store_last;
+use host_view_answers::store_segment;
 use host_words::load_book;
 ghost use mathlib.Core.Path.{_≡_};
 ghost use Rattle.host_answers.specs.Answers.{answered};

@@ -1,6 +1,6 @@
 use borrow.Author.Needs.{needs}
-use Rattle.host_answers.proofs.store_shown.Statement.{statement}
-use Rattle.host_answers.proofs.store_shown.Tie as tie
+use Rattle.host_level_answers.proofs.store_shown.Statement.{statement}
+use Rattle.host_level_answers.proofs.store_shown.Tie as tie
 
 returns : tie.Need-returns
 returns c =

@@ -1,6 +1,6 @@
 use borrow.Author.Needs.{needs}
-use Rattle.host_answers.proofs.store_invalidation.Statement.{statement}
-use Rattle.host_answers.proofs.store_invalidation.Tie as tie
+use Rattle.host_view_answers.proofs.store_invalidation.Statement.{statement}
+use Rattle.host_view_answers.proofs.store_invalidation.Tie as tie
 
 returns : tie.Need-returns
 returns c =

@@ -1,8 +1,8 @@
 use mathlib.Core.Path.{sym}
 use Rattle.host_answers.proofs.Refusals.{state-refused}
 use borrow.Author.Needs.{needs}
-use Rattle.host_answers.proofs.store_stale.Statement.{statement}
-use Rattle.host_answers.proofs.store_stale.Tie as tie
+use Rattle.host_level_answers.proofs.store_stale.Statement.{statement}
+use Rattle.host_level_answers.proofs.store_stale.Tie as tie
 
 returns : tie.Need-returns
 returns c = rw (c .enum-told .given .1)
