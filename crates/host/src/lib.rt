@@ -10,7 +10,8 @@ ghost use Rattle.book.specs.Broken.{wordsBroken};
 ghost use Rattle.host_pieces.specs.Pieces.{messageNumber, messageOut, snapshotNumber, snapshotOut, orderNumber, orderOut};
 ghost use Rattle.host_answers.specs.Answers.{answered};
 ghost use Rattle.host_new.specs.New.{newCall};
-ghost use Rattle.host_calls.specs.Calls.{called, stepCalled, applyCall, bootstrapCall, handshakeCall, stepCall};
+ghost use Rattle.host_calls.specs.Calls.{called, stepCalled, applyCall, bootstrapCall, stepCall};
+ghost use Rattle.host_new_handshake.specs.NewHandshake.{handshakeCall};
 ghost use Rattle.host_replay_run.specs.Run.{replayCalled};
 ghost use Rattle.host_replay.specs.Replay.{replayCall};
 ghost use Rattle.host_views.specs.Views.{lastCall, bestCall, auditCall};
@@ -116,7 +117,7 @@ pub extern "C" fn pinuglaw_bootstrap(
 pub extern "C" fn pinuglaw_handshake(state: &[u64], handshake: &mut [u64]) -> u64
     ensures { λ r. ⌜ answered r (now (handshake .exit)) ≡ handshakeCall (now (state .entry)) (now (handshake .entry)) ⌝ }
 {
-    host_step::new_handshake(state, handshake)
+    host_new_handshake::new_handshake(state, handshake)
 }
 
 // Steps a handshake by a message of 21 words. Answers as `pinuglaw_apply` does, 512 where the message was dropped, and 9 where the handshake has ended or is

@@ -1,16 +1,13 @@
 // A message applied to a book whose state, message and segment list are words: the call that `host` exports. It does on words what `apply` does on a slice of
 // records, by the same work.
-use host_boundary::boundary;
-use host_message_tests::no_message;
+use host_call_boundaries::apply_boundary;
 use host_messages::load_message;
 use host_records::RECORD_WORDS;
 use host_records::last_record;
 use host_records_store::rewrite_record;
-use host_word_tests::list_short;
 use host_words::load_book;
 use host_words_store::sets_status;
 use host_words_store::store_book;
-use piece::MESSAGE_WORDS;
 ghost use mathlib.Core.Path.{_≡_};
 ghost use Rattle.host_calls.specs.Calls.{called, applyCall};
 
@@ -18,14 +15,7 @@ pub fn apply(state: &mut [u64], rows: &mut [u64], segments: &mut [u64], message:
     ensures { λ r. ⌜ called r (now (state .exit)) (now (rows .exit)) (now (segments .exit)) ≡ applyCall (now (state .entry)) (now (rows .entry)) (now (segments .entry)) (now (message .entry)) ⌝ }
 {
     let lent = segments.len() / RECORD_WORDS;
-    let less = list_short(state, lent);
-    let stop = boundary(
-        state,
-        rows.len(),
-        less,
-        message.len() < MESSAGE_WORDS,
-        no_message(message),
-    );
+    let stop = apply_boundary(state, rows.len(), lent, message);
     if stop != 0 {
         return stop;
     }

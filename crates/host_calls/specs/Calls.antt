@@ -1,7 +1,7 @@
 -- The exported calls on a book: what a call answers and leaves.
 use Prim.Native.Nat.{ℕ}
 use mathlib.Core.List.{List}
-use mathlib.Core.Bool.{Bool, false, cond, _||_}
+use mathlib.Core.Bool.{Bool, false, _||_}
 use lib.Dec.{eqb, ltb}
 use lib.ListN.{length, getD}
 use Rattle.piece.specs.Words.{messageWords}
@@ -11,13 +11,12 @@ use Rattle.reconstructor_answers.specs.Numbers.{answerTold}
 use Rattle.host_words.specs.Block.{bookOf, restored, messageOf, setsStatus}
 use Rattle.host_word_tests.specs.WordTests.{noHandshake}
 use Rattle.host_message_tests.specs.MessageTests.{noMessage}
-use Rattle.host_boundary.specs.Boundary.{boundary, ownBoundary, unlessTurned}
+use Rattle.host_boundary.specs.Boundary.{boundary, unlessTurned}
 use Rattle.reconstructor.specs.Applied.{Parts, applied}
 use Rattle.reconstructor_bootstrap.specs.Numbers.{snapshotTold}
 use Rattle.reconstructor_bootstrap.specs.Bootstrap.{Parts as SnapshotParts, bootstrapped}
-use Rattle.reconstructor_state.specs.State.{ceiling, segmentOf}
-use Rattle.reconstructor_handshake.specs.Step.{StepParts, stepTold, newHandshake, stepped}
-use Rattle.host_answers.specs.Answers.{Answered, answered}
+use Rattle.reconstructor_state.specs.State.{ceiling}
+use Rattle.reconstructor_handshake.specs.Step.{StepParts, stepTold, stepped}
 use Rattle.host_handshake.specs.HandshakeWords.{handshakeWords, handshakeOf, handshakeLeft, stepSets}
 
 -- the answer, and the lent words afterwards
@@ -54,13 +53,7 @@ bootstrapCall st ws sg bytes =
     unlessTurned (callBoundary st ws sg false false) (λ (k : ℕ). called k st ws sg)
     (afterBootstrap st sg (bootstrapped ceiling (bookOf st) (memory ws) (recordsOf sg) bytes))
 
--- ---- handshakes
-
--- 7: fewer words than a handshake's
-unfoldable pub handshakeCall : List ℕ → List ℕ → Answered
-handshakeCall st hs =
-    unlessTurned (ownBoundary st) (λ (k : ℕ). answered k hs)
-    (cond (ltb (length hs) handshakeWords) (answered 7 hs) (answered 0 (handshakeLeft hs (newHandshake (segmentOf (bookOf st)) (bookOf st .segments)))))
+-- ---- steps of a handshake
 
 pub record StepCall : Type 0 where
   pub number : ℕ

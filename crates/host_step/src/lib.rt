@@ -1,39 +1,17 @@
-// A handshake made and stepped where the state, the handshake, the message and the segment list are words: the calls that `host` exports. A step does on words
-// what `Handshake::step` does on a slice of records, by the same work.
-use host_boundary::boundary;
-use host_boundary::own_boundary;
-use host_handshake::HANDSHAKE_WORDS;
+// A handshake stepped where the state, the handshake, the message and the segment list are words: the call that `host` exports. It does on words what
+// `Handshake::step` does on a slice of records, by the same work.
+use host_call_boundaries::step_boundary;
 use host_handshake::load_handshake;
 use host_handshake::step_sets_status;
 use host_handshake::store_handshake;
-use host_message_tests::no_message;
 use host_messages::load_message;
 use host_records::RECORD_WORDS;
 use host_records::last_record;
 use host_records_store::rewrite_record;
-use host_word_tests::list_short;
-use host_word_tests::no_handshake;
 use host_words::load_book;
 use host_words_store::store_book;
-use piece::MESSAGE_WORDS;
-use reconstructor_handshake::Handshake;
 ghost use mathlib.Core.Path.{_≡_};
-ghost use Rattle.host_answers.specs.Answers.{answered};
-ghost use Rattle.host_calls.specs.Calls.{handshakeCall, stepCalled, stepCall};
-
-pub fn new_handshake(state: &[u64], handshake: &mut [u64]) -> u64
-    ensures { λ r. ⌜ answered r (now (handshake .exit)) ≡ handshakeCall (now (state .entry)) (now (handshake .entry)) ⌝ }
-{
-    let stop = own_boundary(state);
-    if stop != 0 {
-        return stop;
-    }
-    if handshake.len() < HANDSHAKE_WORDS {
-        return 7;
-    }
-    store_handshake(handshake, Handshake::new(load_book(state)));
-    0
-}
+ghost use Rattle.host_calls.specs.Calls.{stepCalled, stepCall};
 
 pub fn step(
     state: &mut [u64],
@@ -45,10 +23,7 @@ pub fn step(
     ensures { λ r. ⌜ stepCalled r (now (state .exit)) (now (rows .exit)) (now (segments .exit)) (now (handshake .exit)) ≡ stepCall (now (state .entry)) (now (rows .entry)) (now (segments .entry)) (now (handshake .entry)) (now (message .entry)) ⌝ }
 {
     let lent = segments.len() / RECORD_WORDS;
-    let less = list_short(state, lent);
-    let short = (handshake.len() < HANDSHAKE_WORDS) | (message.len() < MESSAGE_WORDS);
-    let wrong = no_handshake(handshake) | no_message(message);
-    let stop = boundary(state, rows.len(), less, short, wrong);
+    let stop = step_boundary(state, rows.len(), lent, handshake, message);
     if stop != 0 {
         return stop;
     }

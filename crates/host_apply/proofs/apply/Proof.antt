@@ -1,8 +1,7 @@
--- `boundary` answers the definition's number, and 0 only where state and message have all their words, so that they can be loaded and stored. Then the work by
+-- `apply_boundary` answers the definition's number, and 0 only where state and message have all their words, so that they can be loaded and stored. Then the work by
 -- value, with its record and its state written back, is what `applied` leaves (`apply-leaves`).
-use mathlib.Core.Path.{sym, ap₂, _∙_}
+use mathlib.Core.Path.{sym, _∙_}
 use Prim.Native.Nat.{ℕ}
-use mathlib.Core.Bool.{Bool}
 use lib.Dec.{ltb}
 use lib.ListN.{length}
 use Rattle.host_calls.proofs.Blocks.{less}
@@ -10,7 +9,6 @@ use borrow.Author.Tests.{ltb-false, eq-eqb}
 use Rattle.book.specs.Memory.{memory, extentOf}
 use Rattle.reconstructor_state.specs.State.{ceiling}
 use Rattle.host_message_tests.specs.MessageTests.{noMessage}
-use Rattle.host_boundary.specs.Boundary.{boundary}
 use Rattle.host_boundary.proofs.Passed.{passed, turned-away, goes-on}
 use Rattle.host_calls.specs.Calls.{called, applyCall}
 use Rattle.host_calls.proofs.Works.{apply-leaves}
@@ -21,34 +19,27 @@ use Rattle.host_apply.proofs.apply.Tie as tie
 returns : tie.Need-returns
 unfolding applyCall
 returns c =
-    let k-list-short = c .before .before .before .before in
-    let k-start = k-list-short .before .before .before .before .before .before in
-    turned-away _ _ (λ (n : ℕ). called n (k-start .args .state .now) (k-start .args .rows .now) (k-start .args .segments .now)) _ (c .before .boundary .ensures ∙ ap₂ (λ (x y : Bool). boundary (k-start .args .state .now) (extentOf (memory (k-start .args .rows .now))) x (ltb (length (k-start .args .message .now)) 21) y) (k-list-short .list-short .ensures) (c .before .before .no-message .ensures)) (c .if1 .taken)
+    let k-start = c .before .before .before .before .before .before .before in
+    turned-away _ _ (λ (n : ℕ). called n (k-start .args .state .now) (k-start .args .rows .now) (k-start .args .segments .now)) _ (c .before .apply-boundary .ensures) (c .if1 .taken)
 
 load-book-requires : tie.Need-load-book-requires
 load-book-requires c κs =
-    let k-no-message = c .before .before .before in
-    let k-list-short = k-no-message .before .before in
-    let k-start = k-list-short .before .before .before .before .before .before in
-    passed (k-start .args .state .now) (extentOf (memory (k-start .args .rows .now))) (less (k-start .args .state .now) (k-start .args .segments .now)) (ltb (length (k-start .args .message .now)) 21) (noMessage (k-start .args .message .now)) (eq-eqb _ _ (sym (c .before .before .boundary .ensures ∙ ap₂ (λ (x y : Bool). boundary (k-start .args .state .now) (extentOf (memory (k-start .args .rows .now))) x (ltb (length (k-start .args .message .now)) 21) y) (k-list-short .list-short .ensures) (k-no-message .no-message .ensures)) ∙ c .before .if1 .left)) .whole
+    let k-start = c .before .before .before .before .before .before .before .before in
+    passed (k-start .args .state .now) (extentOf (memory (k-start .args .rows .now))) (less (k-start .args .state .now) (k-start .args .segments .now)) (ltb (length (k-start .args .message .now)) 21) (noMessage (k-start .args .message .now)) (eq-eqb _ _ (sym (c .before .before .apply-boundary .ensures) ∙ c .before .if1 .left)) .whole
 
 load-message-requires : tie.Need-load-message-requires
 load-message-requires c κs =
     let k-if1 = c .before .before .before .before .before in
-    let k-boundary = k-if1 .before in
-    let k-no-message = k-boundary .before in
-    let k-list-short = k-no-message .before .before in
-    let k-start = k-list-short .before .before .before .before .before .before in
-    ltb-false (length (k-start .args .message .now)) 21 (passed (k-start .args .state .now) (extentOf (memory (k-start .args .rows .now))) (less (k-start .args .state .now) (k-start .args .segments .now)) (ltb (length (k-start .args .message .now)) 21) (noMessage (k-start .args .message .now)) (eq-eqb _ _ (sym (k-boundary .boundary .ensures ∙ ap₂ (λ (x y : Bool). boundary (k-start .args .state .now) (extentOf (memory (k-start .args .rows .now))) x (ltb (length (k-start .args .message .now)) 21) y) (k-list-short .list-short .ensures) (k-no-message .no-message .ensures)) ∙ k-if1 .if1 .left)) .full)
+    let k-apply-boundary = k-if1 .before in
+    let k-start = k-apply-boundary .before .before .before .before .before .before in
+    ltb-false (length (k-start .args .message .now)) 21 (passed (k-start .args .state .now) (extentOf (memory (k-start .args .rows .now))) (less (k-start .args .state .now) (k-start .args .segments .now)) (ltb (length (k-start .args .message .now)) 21) (noMessage (k-start .args .message .now)) (eq-eqb _ _ (sym (k-apply-boundary .apply-boundary .ensures) ∙ k-if1 .if1 .left)) .full)
 
 store-book-requires : tie.Need-store-book-requires
 store-book-requires c κs =
     let k-if1 = c .before .before .before .before .before .before .before .before .before .before .before .before .before .before .before in
-    let k-boundary = k-if1 .before in
-    let k-no-message = k-boundary .before in
-    let k-list-short = k-no-message .before .before in
-    let k-start = k-list-short .before .before .before .before .before .before in
-    passed (k-start .args .state .now) (extentOf (memory (k-start .args .rows .now))) (less (k-start .args .state .now) (k-start .args .segments .now)) (ltb (length (k-start .args .message .now)) 21) (noMessage (k-start .args .message .now)) (eq-eqb _ _ (sym (k-boundary .boundary .ensures ∙ ap₂ (λ (x y : Bool). boundary (k-start .args .state .now) (extentOf (memory (k-start .args .rows .now))) x (ltb (length (k-start .args .message .now)) 21) y) (k-list-short .list-short .ensures) (k-no-message .no-message .ensures)) ∙ k-if1 .if1 .left)) .whole
+    let k-apply-boundary = k-if1 .before in
+    let k-start = k-apply-boundary .before .before .before .before .before .before in
+    passed (k-start .args .state .now) (extentOf (memory (k-start .args .rows .now))) (less (k-start .args .state .now) (k-start .args .segments .now)) (ltb (length (k-start .args .message .now)) 21) (noMessage (k-start .args .message .now)) (eq-eqb _ _ (sym (k-apply-boundary .apply-boundary .ensures) ∙ k-if1 .if1 .left)) .whole
 
 returns-2 : tie.Need-returns-2
 unfolding applyCall
@@ -61,11 +52,9 @@ returns-2 c =
     let k-last-record = k-load-message .before .before in
     let k-load-book = k-last-record .before .before in
     let k-if1 = k-load-book .before .before in
-    let k-boundary = k-if1 .before in
-    let k-no-message = k-boundary .before in
-    let k-list-short = k-no-message .before .before in
-    let k-start = k-list-short .before .before .before .before .before .before in
-    goes-on _ _ (λ (n : ℕ). called n (k-start .args .state .now) (k-start .args .rows .now) (k-start .args .segments .now)) _ _ (k-boundary .boundary .ensures ∙ ap₂ (λ (x y : Bool). boundary (k-start .args .state .now) (extentOf (memory (k-start .args .rows .now))) x (ltb (length (k-start .args .message .now)) 21) y) (k-list-short .list-short .ensures) (k-no-message .no-message .ensures)) (k-if1 .if1 .left)
+    let k-apply-boundary = k-if1 .before in
+    let k-start = k-apply-boundary .before .before .before .before .before .before in
+    goes-on _ _ (λ (n : ℕ). called n (k-start .args .state .now) (k-start .args .rows .now) (k-start .args .segments .now)) _ _ (k-apply-boundary .apply-boundary .ensures) (k-if1 .if1 .left)
     (rw (c .number .ensures, k-store-book .store-book .ensures, k-sets-status .sets-status .ensures, ← k-load-book .load-book .ensures, ← k-load-message .load-message .ensures)
     (apply-leaves ceiling (k-start .args .state .now) (k-start .args .rows .now) (k-start .args .segments .now) (k-load-book .load-book .result) (k-last-record .last-record .result) (k-last-record .last-record .ensures) (k-load-message .load-message .result) (k-apply-by-value .apply-by-value .result) _ _ (k-apply-by-value .apply-by-value .ensures) (k-rewrite-record .rewrite-record .ensures)))
 
@@ -73,8 +62,6 @@ pub apply-spec : {M : Type 1} → statement M
 apply-spec =
     tie.close
     (tie.spec
-    (λ c κs. search needs)
-    (λ c κs. search needs)
     (λ c κs. search needs)
     (λ c. search needs)
     returns

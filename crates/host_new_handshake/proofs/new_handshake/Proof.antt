@@ -6,10 +6,10 @@ use borrow.Author.Tests.{eq-eqb, lt-ltb, le-ltb}
 use lib.ListN.{length}
 use Rattle.host_boundary.proofs.Passed.{own-passed, turned-away, goes-on}
 use Rattle.host_answers.specs.Answers.{answered}
-use Rattle.host_calls.specs.Calls.{handshakeCall}
+use Rattle.host_new_handshake.specs.NewHandshake.{handshakeCall}
 use borrow.Author.Needs.{needs}
-use Rattle.host_step.proofs.new_handshake.Statement.{statement}
-use Rattle.host_step.proofs.new_handshake.Tie as tie
+use Rattle.host_new_handshake.proofs.new_handshake.Statement.{statement}
+use Rattle.host_new_handshake.proofs.new_handshake.Tie as tie
 
 returns : tie.Need-returns
 unfolding handshakeCall
