@@ -1,4 +1,4 @@
-// The reads of a valid book whose answer is a value: `last_sequence`, `best`, `audit`. `F_under` is `F` under another ceiling than the rules'.
+// The reads of a valid book whose answer is a value: `last_sequence`, `best`, `audit`. `F_under` is `F` under any ceiling.
 use book_valid::AuditAnswer;
 use reconstructor_state::BookReconstructor;
 use reconstructor_state::VenueRules;
