@@ -26,7 +26,8 @@ use Rattle.reconstructor_checks.specs.StateChecks.{stateRefusal, broken}
 use Rattle.reconstructor.specs.Applied.{appliedTo, applied}
 use Rattle.reconstructor_handshake.specs.declared.StepAnswer.{StepAnswer}
 use Rattle.reconstructor_handshake.specs.declared.StepAnswer.the-variants.{Stepped, OtherSegment}
-use Rattle.reconstructor_handshake.specs.Step.{otherSegment, drops, with, after, byApply, dropped, stepRefusal, unlessRefused, StepWorked, putBack, steppedTo, stepped}
+use Rattle.reconstructor_handshake.specs.Step.{otherSegment, with, after, byApply, dropped, stepRefusal, unlessRefused, StepWorked, putBack, steppedTo, stepped}
+use Rattle.reconstructor_handshake_rules.specs.Drops.{drops}
 use Rattle.host_records.specs.Records.{recordsOf, relaid}
 use Rattle.reconstructor_answers.specs.Numbers.{answerNumber}
 use Rattle.host_words.specs.Block.{stateWords, bookOf, messageOf, restored, raised}

@@ -36,7 +36,8 @@ use Rattle.reconstructor_bootstrap.specs.Bootstrap as boot
 use Rattle.reconstructor_bootstrap.specs.Bootstrap.{bootstrapped}
 use Rattle.reconstructor_bootstrap.proofs.Laws.{refusalOf, refused-is, is-accepted}
 use Rattle.reconstructor_handshake.specs.declared.Handshake.{Handshake}
-use Rattle.reconstructor_handshake.specs.Step.{otherSegment, stepRefusal, drops, stepped}
+use Rattle.reconstructor_handshake.specs.Step.{otherSegment, stepRefusal, stepped}
+use Rattle.reconstructor_handshake_rules.specs.Drops.{drops}
 use Rattle.reconstructor_handshake.proofs.Step.{unusable-step, other-step, out-of-range-step, dropped-step, decided-step}
 use Rattle.ledger.specs.Ledger.{Config, Call, Read as Asked, bootstrap, apply, step, read, blank, feedView}
 use Rattle.ledger.specs.World.{World, lentMemory, lentSegments, perform, run, Fits, Lendable, freshWorld}

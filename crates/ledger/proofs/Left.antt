@@ -30,7 +30,8 @@ use Rattle.reconstructor_bootstrap.specs.Snapshot.{snapshotLine}
 use Rattle.reconstructor_bootstrap.specs.Bootstrap.{Parts as SnapshotParts, refusedBook, closed, bootstrapped}
 use Rattle.reconstructor_bootstrap.proofs.Laws.{refusalOf, refused-is, counts-alone, is-accepted}
 use Rattle.reconstructor_handshake.specs.declared.Handshake.{Handshake}
-use Rattle.reconstructor_handshake.specs.Step.{StepParts, otherSegment, drops, stepped}
+use Rattle.reconstructor_handshake.specs.Step.{StepParts, otherSegment, stepped}
+use Rattle.reconstructor_handshake_rules.specs.Drops.{drops}
 use Rattle.reconstructor_handshake.proofs.Step.{other-step, out-of-range-step, dropped-step, decided-step}
 
 pub record Left (mem : Memory) (sg : List Segment) (b : BookReconstructor) (after : Memory) (tg : List Segment) : Type 0 where

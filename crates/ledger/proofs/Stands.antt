@@ -48,7 +48,8 @@ use Rattle.reconstructor_bootstrap.specs.Snapshot.{snapshotLine, pieceAnswer, p
 use Rattle.reconstructor_bootstrap.specs.Bootstrap.{Parts as SnapshotParts, refusedBook as refusedBoot, closed, bootstrapped}
 use Rattle.reconstructor_bootstrap.proofs.Laws.{refusalOf, refused-is, counts-alone, acceptedParts, is-accepted, accepted-usable}
 use Rattle.reconstructor_handshake.specs.declared.Handshake.{Handshake}
-use Rattle.reconstructor_handshake.specs.Step.{StepParts, otherSegment, stepRefusal, drops, stepped}
+use Rattle.reconstructor_handshake.specs.Step.{StepParts, otherSegment, stepRefusal, stepped}
+use Rattle.reconstructor_handshake_rules.specs.Drops.{drops}
 use Rattle.reconstructor_handshake.proofs.Step.{other-step, out-of-range-step, dropped-step, decided-step}
 use Rattle.ledger.specs.Ledger.{Config, Outcome, refused, invalidates, dropped, accepted, outcomeOf, applyOutcome, stepOutcomeOf, stepOutcome, bootOutcome, viewBy, viewBoot, snapView}
 

@@ -21,7 +21,8 @@ use Rattle.reconstructor.specs.Refusals.{gateRefusal, turnRefusal}
 use Rattle.reconstructor_bootstrap.specs.declared.SnapshotAnswer.{SnapshotAnswer}
 use Rattle.reconstructor_bootstrap.specs.declared.SnapshotAnswer.the-variants as snapshots
 use Rattle.reconstructor_handshake.specs.declared.StepAnswer.{StepAnswer}
-use Rattle.reconstructor_handshake.specs.Step.{stepRefusal, drops}
+use Rattle.reconstructor_handshake.specs.Step.{stepRefusal}
+use Rattle.reconstructor_handshake_rules.specs.Drops.{drops}
 use Rattle.ledger.specs.Ledger.{Config, Call, bootstrap, apply, step, read, nameOf, bootOutcome, feedView}
 
 -- ---- where a call is counted, if anywhere

@@ -32,7 +32,8 @@ use Rattle.reconstructor_bootstrap.specs.declared.SnapshotAnswer.{SnapshotAnswe
 use Rattle.reconstructor_bootstrap.specs.Snapshot.{snapshotLine, bootRefusal}
 use Rattle.reconstructor_handshake.specs.declared.Handshake.{Handshake}
 use Rattle.reconstructor_handshake.specs.declared.StepAnswer.{StepAnswer}
-use Rattle.reconstructor_handshake.specs.Step.{stepRefusal, drops}
+use Rattle.reconstructor_handshake.specs.Step.{stepRefusal}
+use Rattle.reconstructor_handshake_rules.specs.Drops.{drops}
 use Rattle.queue.specs.declared.QueueEstimate.{QueueEstimate}
 
 -- ---- what it is fed

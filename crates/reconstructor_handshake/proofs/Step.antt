@@ -27,7 +27,8 @@ use Rattle.reconstructor.proofs.ByValue.{applied-trusted-to}
 use Rattle.reconstructor_handshake.specs.declared.Handshake.{Handshake}
 use Rattle.reconstructor_handshake.specs.declared.StepAnswer.{StepAnswer}
 use Rattle.reconstructor_handshake.specs.declared.StepAnswer.the-variants.{Stepped, Dropped, OtherSegment}
-use Rattle.reconstructor_handshake.specs.Step.{otherSegment, stepRefusal, drops, after, StepParts, StepWorked, unchanged, dropped, byApply, unlessRefused, putBack, steppedTo, stepped}
+use Rattle.reconstructor_handshake.specs.Step.{otherSegment, stepRefusal, after, StepParts, StepWorked, unchanged, dropped, byApply, unlessRefused, putBack, steppedTo, stepped}
+use Rattle.reconstructor_handshake_rules.specs.Drops.{drops}
 use Rattle.reconstructor_handshake.specs.Inner.{stepTo}
 
 -- ---- by value

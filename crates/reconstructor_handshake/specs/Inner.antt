@@ -16,7 +16,8 @@ use Rattle.reconstructor_handshake.specs.declared.Handshake.{Handshake}
 use Rattle.reconstructor_handshake.specs.declared.StepAnswer.the-variants.{Stepped, OtherSegment}
 use Rattle.reconstructor_handshake.specs.declared.StepReply.{StepReply}
 use Rattle.reconstructor_handshake.specs.declared.StepWork.{StepWork}
-use Rattle.reconstructor_handshake.specs.Step.{otherSegment, drops, StepWorked, after, dropped, byApply, unlessRefused}
+use Rattle.reconstructor_handshake.specs.Step.{otherSegment, StepWorked, after, dropped, byApply, unlessRefused}
+use Rattle.reconstructor_handshake_rules.specs.Drops.{drops}
 
 -- what 9 and 5 let pass is dropped, or `apply` decides
 abbrev pub admittedTo : Handshake → BookReconstructor → Memory → Segment → L3Message → StepWorked

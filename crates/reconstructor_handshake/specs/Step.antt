@@ -2,14 +2,12 @@
 -- after 1, 2, 3, 9, 5, the same product at or below that segment's start_seq, whatever the value holds, is dropped and counted; else `apply` decides. 10
 -- passes by; 16 or 17 ends the handshake; it keeps the number applied."
 use Prim.Native.Nat.{ℕ}
-use mathlib.Core.Bool.{Bool, true, not, _||_, _&&_, cond}
+use mathlib.Core.Bool.{Bool, true, not, _||_, cond}
 use mathlib.Core.List.{List, []}
 use mathlib.Core.Option.{Option, none, some}
-use lib.Dec.{eqb, leb}
+use lib.Dec.{eqb}
 use lib.ListN.{length}
-use Rattle.message.specs.declared.ProductId.{ProductId}
 use Rattle.message.specs.declared.L3Message.{L3Message}
-use Rattle.message.specs.Same.{sameProduct}
 use Rattle.message.specs.Values.{eventInRange}
 use Rattle.book.specs.Memory.{Memory}
 use Rattle.reconstructor_answers.specs.declared.StateError.{StateError}
@@ -28,6 +26,7 @@ use Rattle.reconstructor_state.specs.Checks.{check, first}
 use Rattle.reconstructor_state.specs.State.{View, viewWith, Lengths, lengthsWith, withCounts, segmentOf}
 use Rattle.reconstructor_checks.specs.StateChecks.{stateRefusal, broken}
 use Rattle.reconstructor.specs.Applied.{Worked, appliedTo}
+use Rattle.reconstructor_handshake_rules.specs.Drops.{drops}
 use Rattle.reconstructor_handshake.specs.declared.Handshake.{Handshake}
 use Rattle.reconstructor_handshake.specs.declared.StepAnswer.{StepAnswer}
 use Rattle.reconstructor_handshake.specs.declared.StepAnswer.the-variants.{Stepped, Dropped, OtherSegment}
@@ -60,10 +59,6 @@ unfoldable pub stepRefusal : ℕ → VenueRules → Lengths → Bool → View �
 stepRefusal top v lent three w name h m =
     first (stateRefusal top v lent three (w .segments)) (λ (e : StateError). Stepped (answers.Unusable e))
     (check (otherSegment h name (w .segments)) OtherSegment (check (not (eventInRange (m .event))) (Stepped answers.AmountOutOfRange) none))
-
--- "the same product at or below that segment's start_seq"
-abbrev pub drops : ProductId → ℕ → L3Message → Bool
-drops p start m = sameProduct (m .«product_id») p && leb (m .sequence) start
 
 -- ---- what a step leaves
 

@@ -3,14 +3,12 @@ use message::L3Message;
 use message::ProductId;
 use reconstructor_answers::ApplyAnswer;
 ghost use mathlib.Core.Path.{_≡_};
-ghost use mathlib.Core.Bool.{_&&_};
-ghost use lib.Dec.{leb};
-ghost use Rattle.message.specs.Same.{sameProduct};
 ghost use Rattle.reconstructor_handshake_rules.specs.Answers.{ends, appliedBy};
+ghost use Rattle.reconstructor_handshake_rules.specs.Drops.{drops};
 
 // Whether the snapshot already has a message.
 pub fn drops(product: ProductId, start_seq: u64, message: L3Message) -> bool
-    ensures { λ r. ⌜ r ≡ (sameProduct (message .«product_id») product && leb (message .sequence) «start_seq») ⌝ }
+    ensures { λ r. ⌜ r ≡ drops product «start_seq» message ⌝ }
 {
     let got = message.product_id;
     message::same_product(got, product) & (message.sequence <= start_seq)
