@@ -1,5 +1,5 @@
--- What a refusal leaves of a host's words. 01: "Save for the counts named above and what 16 .. record, a refusal changes no state and no buffer."
--- The theorems are `apply-refused` and `bootstrap-refused` (proofs/Blocks), `step-refused` and `step-dropped` (proofs/Steps).
+-- What a refusal leaves of a host's words. 01: "Save for the counts named above and what 16 and a handshake's end record, a
+-- refusal changes no state and no buffer." The theorems are `apply-refused` and `bootstrap-refused` (proofs/Blocks), `step-refused` and `step-dropped` (proofs/Steps).
 use Prim.Native.Nat.{ℕ}
 use mathlib.Core.List.{List}
 use mathlib.Core.Bool.{Bool, true, cond, _||_}
@@ -9,7 +9,7 @@ use Rattle.host_words.specs.Block.{raised}
 use Rattle.host_handshake.specs.HandshakeWords.{handshakeOf, handshakeLeft}
 use Rattle.host_calls.specs.Calls.{BookCall, called, StepCall, stepCalled}
 
--- of a message, a number is a refusal's unless it is 0, 256 or 16
+-- the numbers of a message that this does not speak of: 0 and 256 accept it, 16 records an invalidation
 abbrev pub acts : ℕ → Bool
 acts k = eqb k 0 || (eqb k 256 || eqb k 16)
 

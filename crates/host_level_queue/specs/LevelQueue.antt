@@ -1,4 +1,4 @@
--- The exported read of the orders at one level: what it answers and writes, as the reads of all levels do (Levels.antt of `host_levels`).
+-- The exported read of the orders at one level: what it answers and writes, as every level read does (Stops.antt of `host_level_stops`).
 use Prim.Native.Nat.{ℕ}
 use mathlib.Core.List.{List}
 use lib.ListN.{length}

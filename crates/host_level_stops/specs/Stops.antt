@@ -38,7 +38,7 @@ afterLevel sc out count r = counted (levelTold (r .answer)) (r .scratch) (r .out
 abbrev pub levelBoundary : List ℕ → List ℕ → ℕ → ℕ → ℕ
 levelBoundary st ws scratch side = boundary st (extentOf (memory ws)) (ltb scratch (getD st 3 0)) false (noBit side)
 
--- ---- what stands in the way, as a number
+-- ---- what stands in the way, as a number: an inner function's promise, not for a reader to believe; a read's own is by `profileCall` and its kin
 
 -- what the words are turned away for; then, where there is no word for the number of entries, what is told without them, which is never 0; else 0
 unfoldable pub stopOf : ℕ → ℕ → ℕ → ℕ

@@ -22,7 +22,7 @@ staleCall st ws sc side out count =
     unlessTurned (levelBoundary st ws (length sc) side) (λ (k : ℕ). levelCalled k sc out count)
     (afterStale sc out count (staleL2 ceiling (bookOf st) (memory ws) sc (sideOf side) out))
 
--- what stands in the way of it, with so many words of scratch and for the number of entries
+-- what stands in the way of it, with so many words of scratch and for the number of entries: an inner function's promise, not for a reader to believe
 abbrev pub staleStop : List ℕ → List ℕ → ℕ → ℕ → ℕ → ℕ
 staleStop st ws scratch side count =
     stopOf (levelBoundary st ws scratch side) count

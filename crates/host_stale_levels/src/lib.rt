@@ -21,7 +21,7 @@ ghost use Rattle.host_answers.specs.Answers.{lastly};
 ghost use Rattle.host_level_stops.specs.Stops.{levelCalled};
 ghost use Rattle.host_stale_levels.specs.Stale.{staleStop, staleCall};
 
-// The number of a read of an invalid book whose answer has no room: 7, unless it is turned away before. `short` says that its scratch is too short.
+// The number of a read of an invalid book whose answer has no room: 7, or 256 where the book is not invalid, unless it is turned away before. `short` says that its scratch is too short.
 fn unwritten_stale(book: BookReconstructor, rows: &[u64], short: bool) -> u64
     ensures { λ r. ⌜ r ≡ lastly (staleTold (staleRead (readRefusalOf ceiling book (memory (now (rows .entry))) short) (book .status) (shows OutputTooSmall [] []) [] [] .answer) .number) ⌝ }
 {

@@ -1,4 +1,4 @@
-// One message applied to a book: what it leaves, the definitions, and laws. The crates from `reconstructor_turn_replies` to `reconstructor_apply_list` have the code.
+// One message applied to a book: what it leaves, the definitions, and laws. The crates named after `reconstructor_turn` and `reconstructor_apply` have the code.
 use reconstructor_answers::ApplyAnswer;
 use reconstructor_answers::InvalidationKind;
 use reconstructor_plan::Plan;

@@ -1,5 +1,5 @@
 // `bootstrap`: a snapshot piece takes the place of the book, or is turned away and leaves it as it was. Here are its answers with their numbers, what it leaves,
-// and the definitions; the crates from `reconstructor_snapshot` to `reconstructor_bootstrap_list` have the code.
+// and the definitions; `reconstructor_snapshot` and `reconstructor_bootstrap_parts`, `_usable`, `_work`, `_list` have the code.
 use reconstructor_answers::StateError;
 use reconstructor_segments::Segment;
 use reconstructor_state::BookReconstructor;

@@ -1,5 +1,5 @@
 // What a message of a valid book will do, found before anything changes: a plan, or the discrepancy that ends the segment. Here are the rules and what a plan
-// promises; crates `reconstructor_plan_orders`, `_changes` and `_event` find it.
+// promises; crates `reconstructor_plan_orders`, `_matches`, `_changes` and `_event` find it.
 use book::Decrease;
 use book::Resting;
 use reconstructor_answers::Discrepancy;
