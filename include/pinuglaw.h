@@ -352,8 +352,8 @@ uint64_t pinuglaw_apply(uint64_t *state, size_t state_len, uint64_t *rows, size_
  * 4 of words that no message has among them. Answers 0, or in this order 768 (state), 1, 2, 3, and 7 where there are fewer answer words than whole messages:
  * then nothing is touched, whatever the messages are. Words past the last whole message are not read.
  */
-uint64_t pinuglaw_replay(uint64_t *state, size_t state_len, uint64_t *rows, size_t rows_len, uint64_t *segments, size_t segments_len, const uint64_t *messages,
-                         size_t messages_len, uint64_t *answers, size_t answers_len);
+uint64_t pinuglaw_apply_all(uint64_t *state, size_t state_len, uint64_t *rows, size_t rows_len, uint64_t *segments, size_t segments_len,
+                            const uint64_t *messages, size_t messages_len, uint64_t *answers, size_t answers_len);
 
 /*
  * Takes a snapshot piece: 0, or in this order 768 (state), 1, 2, 3, 4 (the bytes are no snapshot), 5, 6, 10, 14 of orders, then order by order 11, 12, 14 of

@@ -507,7 +507,7 @@ static void check_short_states(struct book *b, uint64_t *words)
     const struct piece snapshot = snapshot_of_e(200);
     SAME(pinuglaw_apply(state, lent, LENT(b->rows), LENT(b->segments), LENT(message)), PINUGLAW_SHORT_INPUT);
     SAME(pinuglaw_step(state, lent, LENT(b->rows), LENT(b->segments), LENT(handshake), LENT(message)), PINUGLAW_SHORT_INPUT);
-    SAME(pinuglaw_replay(state, lent, LENT(b->rows), LENT(b->segments), LENT(message), words, 0), PINUGLAW_SHORT_INPUT);
+    SAME(pinuglaw_apply_all(state, lent, LENT(b->rows), LENT(b->segments), LENT(message), words, 0), PINUGLAW_SHORT_INPUT);
     SAME(pinuglaw_bootstrap(state, lent, LENT(b->rows), LENT(b->segments), snapshot.bytes, snapshot.length), PINUGLAW_SHORT_INPUT);
     SAME(pinuglaw_handshake(state, lent, words, 0), PINUGLAW_SHORT_INPUT);
     SAME(pinuglaw_last_sequence(state, lent, LENT(b->rows), words, 0), PINUGLAW_SHORT_INPUT);
@@ -621,7 +621,7 @@ static void check_state_of_no_book(struct book b)
     next_message(message, PINUGLAW_KIND_RECEIVED);
     SAME(apply_words(&b, LENT(message)), PINUGLAW_BROKEN_BOOK);
     SAME(take_snapshot(&b, &snapshot), PINUGLAW_BROKEN_BOOK);
-    SAME(pinuglaw_replay(LENT(b.state), LENT(b.rows), LENT(b.segments), LENT(message), out, 0), PINUGLAW_BROKEN_BOOK);
+    SAME(pinuglaw_apply_all(LENT(b.state), LENT(b.rows), LENT(b.segments), LENT(message), out, 0), PINUGLAW_BROKEN_BOOK);
     SAME(pinuglaw_best(LENT(b.state), LENT(b.rows), out, 0), PINUGLAW_BROKEN_BOOK);
     SAME(pinuglaw_stale_l2(LENT(b.state), LENT(b.rows), LENT(b.scratch), BUY, out, 0, count, 0), PINUGLAW_BROKEN_BOOK);
     SAME(pinuglaw_handshake(LENT(b.state), out, 0), PINUGLAW_BROKEN_BOOK);
@@ -650,7 +650,7 @@ static void check_states_of_no_book(void)
 }
 
 /* A run of messages in one call: what single calls answer and leave, the re-sent match, what follows it and words of no message among them. */
-static void check_replay(void)
+static void check_apply_all(void)
 {
     struct book singly = valid_e(), book = singly;
     enum { RUN = 5, OF_NO_MESSAGE = 2 };
@@ -660,11 +660,11 @@ static void check_replay(void)
         read_into(messages + i * PINUGLAW_MESSAGE_WORDS, run[i]);
     messages[OF_NO_MESSAGE * PINUGLAW_MESSAGE_WORDS + PINUGLAW_MESSAGE_SIDE] = NO_VALUE;
     fill(LENT(answers), JUNK);
-    SAME(pinuglaw_replay(LENT(book.state), LENT(book.rows), LENT(book.segments), LENT(messages), answers, RUN - 1), PINUGLAW_OUTPUT_TOO_SMALL);
-    SAME(pinuglaw_replay(LENT(book.state), book.rows, 0, LENT(book.segments), LENT(messages), answers, RUN - 1), PINUGLAW_MEMORY_TOO_SHORT);
+    SAME(pinuglaw_apply_all(LENT(book.state), LENT(book.rows), LENT(book.segments), LENT(messages), answers, RUN - 1), PINUGLAW_OUTPUT_TOO_SMALL);
+    SAME(pinuglaw_apply_all(LENT(book.state), book.rows, 0, LENT(book.segments), LENT(messages), answers, RUN - 1), PINUGLAW_MEMORY_TOO_SHORT);
     SAME_BOOK(&book, &singly);
     WORDS(answers, JUNK, JUNK, JUNK, JUNK, JUNK, JUNK);
-    SAME(pinuglaw_replay(LENT(book.state), LENT(book.rows), LENT(book.segments), LENT(messages), LENT(answers)), PINUGLAW_OK);
+    SAME(pinuglaw_apply_all(LENT(book.state), LENT(book.rows), LENT(book.segments), LENT(messages), LENT(answers)), PINUGLAW_OK);
     WORDS(answers, PINUGLAW_BOOK_CHANGED, PINUGLAW_BOOK_CHANGED, PINUGLAW_NOT_A_PIECE, PINUGLAW_INVALIDATED, PINUGLAW_AWAITING_SNAPSHOT, JUNK);
     for (size_t i = 0; i < RUN; i++)
         SAME(apply_words(&singly, messages + i * PINUGLAW_MESSAGE_WORDS, PINUGLAW_MESSAGE_WORDS), answers[i]);
@@ -688,7 +688,7 @@ int main(void)
     check_short_inputs();
     check_words_of_no_value();
     check_states_of_no_book();
-    check_replay();
+    check_apply_all();
     printf("C: %u checks, %u failed\n", checks, failures);
     return failures != 0;
 }
