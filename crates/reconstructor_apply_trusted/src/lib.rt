@@ -20,7 +20,7 @@ ghost use Rattle.reconstructor.specs.Applied.{worked};
 ghost use Rattle.reconstructor.specs.Inner.{trustedTo};
 
 // `apply` of a state that passes 1, 2 and 3, without testing them again, with an index of its rows and the last segment's record by value. It leaves such a
-// state (`usable-kept`), and an index that foresaw the message is one of the rows afterwards (`indexed-kept`), so that a replay tests once.
+// state (`usable-kept`), and an index that foresaw the message is one of the rows afterwards (`indexed-kept`), so that a run of messages tests once.
 pub fn apply_indexed(
     book: BookReconstructor,
     rows: &mut [u64],
