@@ -1,10 +1,12 @@
-// The library as Rust and C call it: functions on numbers and slices, each answering a number: of 01's table, or 0 for success, 256 for a message that changed the book and
+// The library as Rust and C call it: functions on numbers and slices, each answering a number: of 01's table, or 0 for success (of a replay the length of its listing), 256 for a message that changed the book and
 // where there is nothing to tell, 512 for a message that a step dropped, 768 (below); `pinuglaw_rows_broken` answers yes or no. A slice is lent as a pointer and a length; what one call is lent does not overlap.
 // Before the rules, a call that reads a state answers 768 where an input of fixed size is lent too short (27 words of state, 21 of a message, 4 of a handshake, 8 of an
 // estimate), 4 where words are those of no message, handshake, estimate or side, and 3, after 1 and 2, where the state is that of no book; it then touches nothing
 // (crate `host_boundary`). An output that is too small is 7, said last.
 use book_valid::rows_broken;
 ghost use mathlib.Core.Path.{_≡_};
+ghost use Prim.Native.Nat.{_≤_};
+ghost use lib.ListN.{length};
 ghost use Rattle.piece.specs.Piece.{readMessage, readSnapshot, orderAt};
 ghost use Rattle.book.specs.Broken.{wordsBroken};
 ghost use Rattle.host_pieces.specs.Pieces.{messageNumber, messageOut, snapshotNumber, snapshotOut, orderNumber, orderOut};
@@ -12,8 +14,10 @@ ghost use Rattle.host_answers.specs.Answers.{answered};
 ghost use Rattle.host_new.specs.New.{newCall};
 ghost use Rattle.host_calls.specs.Calls.{called, stepCalled, applyCall, bootstrapCall, stepCall};
 ghost use Rattle.host_new_handshake.specs.NewHandshake.{handshakeCall};
-ghost use Rattle.host_replay_run.specs.Run.{replayCalled};
-ghost use Rattle.host_replay.specs.Replay.{replayCall};
+ghost use Rattle.host_apply_all_run.specs.Run.{applyAllCalled};
+ghost use Rattle.host_apply_all.specs.ApplyAll.{applyAllCall};
+ghost use Rattle.daybook_lines.specs.Most.{listingBytes};
+ghost use Rattle.daybook.specs.Listing.{listing as Listing·listing, replayCalled, replayCall};
 ghost use Rattle.host_views.specs.Views.{lastCall, bestCall, auditCall};
 ghost use Rattle.host_views_segment.specs.SegmentViews.{invalidationCall, segmentCall};
 ghost use Rattle.host_level_stops.specs.Stops.{levelCalled};
@@ -139,16 +143,26 @@ pub extern "C" fn pinuglaw_step(
 // word of `answers`, and the words past those untouched. Words past the last whole message are not read. Answers 0; 1, 2 or 3, and touches nothing, where every
 // message that is one would be told so; then 7, and touches nothing, where there are fewer answer words than messages.
 #[no_mangle]
-pub extern "C" fn pinuglaw_replay(
+pub extern "C" fn pinuglaw_apply_all(
     state: &mut [u64],
     rows: &mut [u64],
     segments: &mut [u64],
     messages: &[u64],
     answers: &mut [u64],
 ) -> u64
-    ensures { λ r. ⌜ replayCalled r (now (state .exit)) (now (rows .exit)) (now (segments .exit)) (now (answers .exit)) ≡ replayCall (now (state .entry)) (now (rows .entry)) (now (segments .entry)) (now (messages .entry)) (now (answers .entry)) ⌝ }
+    ensures { λ r. ⌜ applyAllCalled r (now (state .exit)) (now (rows .exit)) (now (segments .exit)) (now (answers .exit)) ≡ applyAllCall (now (state .entry)) (now (rows .entry)) (now (segments .entry)) (now (messages .entry)) (now (answers .entry)) ⌝ }
 {
-    host_replay::replay(state, rows, segments, messages, answers)
+    host_apply_all::apply_all(state, rows, segments, messages, answers)
+}
+
+// Replays the day file in `file` on a book of its own, and writes the listing of its segments at the front of `listing`. Answers the listing's length, which is
+// at most 8,192 and never 7; or 7, and touches nothing, where the slice is shorter. A file that breaks the format's rules is listed as 60.
+#[no_mangle]
+pub extern "C" fn pinuglaw_replay(file: &[u8], listing: &mut [u8]) -> u64
+    ensures { λ r. ⌜ replayCalled r (now (listing .exit)) ≡ replayCall (now (file .entry)) (now (listing .entry)) ⌝ }
+    ensures bounded { λ _. ⌜ length (Listing·listing (now (file .entry))) ≤ listingBytes ⌝ }
+{
+    daybook::replay(file, listing)
 }
 
 // ---- reads. Each answers 0 or the number that turns it away, last 7, writing nothing, where its output has no room: 8 words of an estimate, 7 of a volume ahead, 1 for a
