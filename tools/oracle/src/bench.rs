@@ -2,6 +2,7 @@
 
 mod books;
 mod bootstrap;
+mod daybook;
 mod messages;
 mod mix;
 mod pieces;
@@ -64,6 +65,7 @@ const ALL: &[(&str, fn())] = &[
     ("pieces", pieces::run),
     ("rows", rows::run),
     ("venue", venue::run),
+    ("daybook", daybook::run),
 ];
 
 /// Runs the named benchmarks, or all; an unknown name is refused.

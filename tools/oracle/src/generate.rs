@@ -4,12 +4,12 @@
 
 mod create;
 mod damage;
-mod events;
+pub(crate) mod events;
 mod follow;
-mod mirror;
+pub(crate) mod mirror;
 pub mod random;
 mod scripts;
-mod snapshots;
+pub(crate) mod snapshots;
 
 use std::collections::VecDeque;
 
@@ -208,7 +208,7 @@ impl Generator {
             }
         }
         if self.random.chance(40) {
-            self.spoil_piece(&mut piece);
+            self.random.spoil_piece(&mut piece);
         }
         if self.random.chance(50) {
             Act::ReadMessage { piece }
@@ -217,39 +217,10 @@ impl Generator {
         }
     }
 
-    /// One byte changed, one missing or one too many.
-    fn spoil_piece(&mut self, piece: &mut Vec<u8>) {
-        match self.random.below(5) {
-            0 => drop(piece.pop()),
-            1 => piece.push(0),
-            2 => {
-                // A snapshot's time; the presence byte of a done or a change, or the amount after it.
-                let at = match piece.first() {
-                    Some(0) => 25,
-                    Some(3) => 59,
-                    Some(5) => 51,
-                    _ => 49,
-                };
-                let at = at + self.random.pick(&[0, 0, 0, 1, 5]);
-                if at < piece.len() {
-                    piece[at] ^= self.random.pick(&[1, 2, 4, 8, 0x10, 0x20, 0x40, 0x80]);
-                }
-            }
-            3 if !piece.is_empty() => {
-                let at = self.random.below(piece.len().min(110) as u64) as usize;
-                piece[at] ^= self.random.pick(&[1, 2, 0x80, 0xFF]);
-            }
-            _ => {
-                let length = self.random.below(piece.len() as u64 + 1) as usize;
-                piece.truncate(length);
-            }
-        }
-    }
-
     fn message_piece(&mut self, message: &Message) -> Vec<u8> {
         let mut piece = encode_message(message);
         if self.random.chance(1) {
-            self.spoil_piece(&mut piece);
+            self.random.spoil_piece(&mut piece);
         }
         piece
     }
@@ -310,7 +281,7 @@ impl Generator {
         let snapshot = self.random.snapshot(book, flaw);
         let mut piece = encode_snapshot(&snapshot);
         if self.random.chance(3) {
-            self.spoil_piece(&mut piece);
+            self.random.spoil_piece(&mut piece);
         }
         if self.random.chance(1) {
             let message = self.message(book);
@@ -562,7 +533,7 @@ impl Generator {
 }
 
 /// An event with one amount at a bound or, more often, one past it: that is refused and costs the book nothing.
-fn at_a_bound(random: &mut Random, book: &Mirror) -> Event {
+pub(crate) fn at_a_bound(random: &mut Random, book: &Mirror) -> Event {
     let mut event = random.wild_event(book);
     let mut amounts = events::amounts(&mut event);
     let at = random.below(amounts.len() as u64) as usize;
@@ -575,6 +546,35 @@ fn at_a_bound(random: &mut Random, book: &Mirror) -> Event {
 }
 
 impl Random {
+    /// One byte changed, one missing or one too many.
+    pub(crate) fn spoil_piece(&mut self, piece: &mut Vec<u8>) {
+        match self.below(5) {
+            0 => drop(piece.pop()),
+            1 => piece.push(0),
+            2 => {
+                // A snapshot's time; the presence byte of a done or a change, or the amount after it.
+                let at = match piece.first() {
+                    Some(0) => 25,
+                    Some(3) => 59,
+                    Some(5) => 51,
+                    _ => 49,
+                };
+                let at = at + self.pick(&[0, 0, 0, 1, 5]);
+                if at < piece.len() {
+                    piece[at] ^= self.pick(&[1, 2, 4, 8, 0x10, 0x20, 0x40, 0x80]);
+                }
+            }
+            3 if !piece.is_empty() => {
+                let at = self.below(piece.len().min(110) as u64) as usize;
+                piece[at] ^= self.pick(&[1, 2, 0x80, 0xFF]);
+            }
+            _ => {
+                let length = self.below(piece.len() as u64 + 1) as usize;
+                piece.truncate(length);
+            }
+        }
+    }
+
     /// A message's time: often 0 or earlier than the last.
     fn time(&mut self) -> u64 {
         match self.below(6) {

@@ -6,6 +6,7 @@ pub use rust_decimal::Decimal;
 pub mod bench;
 pub mod call;
 pub mod compare;
+pub mod daybook;
 pub mod difference;
 pub mod generate;
 pub mod lines;

@@ -1,11 +1,12 @@
 //! The oracle's command line; see README.md.
 
-use std::io::{self, BufRead, BufWriter, Write};
+use std::io::{self, BufRead, BufWriter, Read, Write};
 use std::path::Path;
 use std::process::ExitCode;
 
 use oracle::call::{Call, Subject};
 use oracle::compare::compare;
+use oracle::daybook;
 use oracle::difference::first;
 use oracle::generate::Generator;
 use oracle::model::Model;
@@ -17,8 +18,8 @@ use oracle::shrink::{Small, shrink};
 use oracle::vectors;
 
 const USAGE: &str =
-    "usage: oracle gen SEED N | run | model | compare SEED N | pieces DIR | vectors DIR
-with the feature `port`: oracle reader SEED N | port SEED N [THREADS] | ported SEED | bench [NAME ..] | show";
+    "usage: oracle gen SEED N | run | model | compare SEED N | pieces DIR | vectors DIR | daybook | day SEED N
+with the feature `port`: oracle reader SEED N | port SEED N [THREADS] | ported SEED | days SEED N [THREADS] | bench [NAME ..] | show";
 
 fn main() -> ExitCode {
     let args: Vec<String> = std::env::args().skip(1).collect();
@@ -30,6 +31,8 @@ fn main() -> ExitCode {
         ["compare", seed, count] => numbers(seed, count).and_then(|(s, n)| side_by_side(s, n)),
         ["pieces", folder] => pieces::write(Path::new(folder)).map_err(|e| e.to_string()),
         ["vectors", folder] => vectors::write(Path::new(folder)).map_err(|e| e.to_string()),
+        ["daybook"] => list_day(),
+        ["day", seed, place] => numbers(seed, place).and_then(|(s, n)| write_day(s, n)),
         #[cfg(feature = "port")]
         ["reader", seed, count] => numbers(seed, count).and_then(|(s, n)| readers(s, n)),
         #[cfg(feature = "port")]
@@ -38,6 +41,12 @@ fn main() -> ExitCode {
         ["port", seed, count, threads] => numbers(seed, count)
             .and_then(|(s, n)| Ok((s, n, number(threads)? as usize)))
             .and_then(|(s, n, threads)| ported(s, n, threads.max(1))),
+        #[cfg(feature = "port")]
+        ["days", seed, count] => numbers(seed, count).and_then(|(s, n)| days(s, n, cores())),
+        #[cfg(feature = "port")]
+        ["days", seed, count, threads] => numbers(seed, count)
+            .and_then(|(s, n)| Ok((s, n, number(threads)? as usize)))
+            .and_then(|(s, n, threads)| days(s, n, threads.max(1))),
         #[cfg(feature = "port")]
         ["ported", seed] => number(seed).and_then(|s| answer(&mut Ported::new(s))),
         #[cfg(feature = "port")]
@@ -106,6 +115,26 @@ fn side_by_side(seed: u64, count: u64) -> Result<(), String> {
     }
 }
 
+/// Lists the day file of the standard input. One byte more than a file may have is enough to refuse it.
+fn list_day() -> Result<(), String> {
+    let mut file = Vec::new();
+    let most = daybook::LONGEST as u64 + 1;
+    let read = io::stdin().lock().take(most).read_to_end(&mut file);
+    read.map_err(|e| e.to_string())?;
+    print_bytes(&daybook::listing(&file))
+}
+
+/// Writes a seed's day file by its place, from 1.
+fn write_day(seed: u64, place: u64) -> Result<(), String> {
+    print_bytes(&daybook::generate::file(seed, place))
+}
+
+fn print_bytes(bytes: &[u8]) -> Result<(), String> {
+    let mut out = io::stdout().lock();
+    let printed = out.write_all(bytes).and_then(|()| out.flush());
+    printed.map_err(|e| e.to_string())
+}
+
 #[cfg(feature = "port")]
 fn readers(seed: u64, count: u64) -> Result<(), String> {
     let tally = oracle::reader::compare(seed, count)?;
@@ -146,5 +175,19 @@ fn ported(seed: u64, count: u64, threads: usize) -> Result<(), String> {
             tell(difference.small());
             Err(difference.to_string())
         }
+    }
+}
+
+#[cfg(feature = "port")]
+fn days(seed: u64, count: u64, threads: usize) -> Result<(), String> {
+    let began = std::time::Instant::now();
+    let cases = daybook::compare::run(&oracle::port::replay, seed, count, threads);
+    let cases = cases.map_err(|difference| difference.to_string())?;
+    println!("{cases:?}");
+    let seconds = began.elapsed().as_secs();
+    println!("{count} files of seed {seed} agree, {seconds} s");
+    match daybook::compare::missing(&cases) {
+        missing if missing.is_empty() || count < daybook::compare::ENOUGH => Ok(()),
+        missing => Err(format!("never met: {missing:?}")),
     }
 }

@@ -25,6 +25,11 @@ pub fn read_message(bytes: &[u8], out: &mut [u64]) -> u64 {
     sys::read_message(&lend::read(bytes), &mut lend::write(out))
 }
 
+/// Replays a day file and writes its listing: the listing's length, or 7.
+pub fn replay(file: &[u8], listing: &mut [u8]) -> u64 {
+    sys::replay(&lend::read(file), &mut lend::write(listing))
+}
+
 /// Reads a snapshot piece's header into words.
 pub fn read_snapshot(bytes: &[u8], out: &mut [u64]) -> u64 {
     sys::read_snapshot(&lend::read(bytes), &mut lend::write(out))
@@ -70,14 +75,14 @@ pub fn apply(state: &mut [u64], rows: &mut [u64], segments: &mut [u64], message:
 }
 
 /// Applies messages, handed over as their words one behind the other, in turn: the number of each goes into a word of `answers`.
-pub fn replay(
+pub fn apply_all(
     state: &mut [u64],
     rows: &mut [u64],
     segments: &mut [u64],
     messages: &[u64],
     answers: &mut [u64],
 ) -> u64 {
-    sys::replay(
+    sys::apply_all(
         &mut lend::write(state),
         &mut lend::write(rows),
         &mut lend::write(segments),

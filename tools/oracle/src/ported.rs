@@ -1,6 +1,7 @@
 //! The port as a `Subject`: every call through the exported functions, and now and then once more with something amiss.
 
 mod amiss;
+mod apply_all;
 mod book;
 mod boundary;
 pub mod cases;
@@ -8,7 +9,6 @@ mod forms;
 mod handshakes;
 mod orders;
 mod reads;
-mod replays;
 mod run;
 mod states;
 mod tally;
@@ -41,7 +41,7 @@ pub struct Ported {
     books: BTreeMap<u8, Book>,
     handshakes: BTreeMap<u8, handshakes::Held>,
     /// The runs of messages under way, by book.
-    runs: BTreeMap<u8, replays::Run>,
+    runs: BTreeMap<u8, apply_all::Run>,
     reads: reads::Reads,
     /// Draws the form of a call's words: from the seed and the call alone, so that a call keeps its form in any list of calls.
     random: Random,

@@ -44,7 +44,11 @@ struct Search<'a, F> {
 }
 
 /// Tries to take out runs of a list, long ones first and none of `least` or shorter; `take` says whether a run was taken out.
-fn take_out(mut length: usize, least: usize, mut take: impl FnMut(Range<usize>) -> bool) {
+pub(crate) fn take_out(
+    mut length: usize,
+    least: usize,
+    mut take: impl FnMut(Range<usize>) -> bool,
+) {
     let mut run = length;
     while run > least {
         let mut end = length;
@@ -190,7 +194,7 @@ fn sequence(piece: &[u8]) -> Option<u64> {
 }
 
 /// Lowers the sequence of a message that comes after the one left out.
-fn lower(piece: &mut [u8], left_out: &[u8]) {
+pub(crate) fn lower(piece: &mut [u8], left_out: &[u8]) {
     if let (Some(this), Some(gone)) = (sequence(piece), sequence(left_out))
         && this > gone
     {

@@ -10,12 +10,13 @@ use std::process::{Command, ExitStatus, Stdio};
 
 use oracle::piece::{Event, Message, encode_message};
 use oracle::port::lend::{self, Place};
-use oracle::{port, ported, reader, rows};
+use oracle::{daybook, port, ported, reader, rows};
 
 /// Calls of a stream.
 const CALLS: u64 = 4_000;
 const PIECES: u64 = 20_000;
 const BOOKS: u64 = 1_000;
+const DAYS: u64 = 2_000;
 /// The signal of a touched page.
 const SEGMENTATION_FAULT: i32 = 11;
 
@@ -36,6 +37,8 @@ fn calls_touch_what_they_are_lent() {
         }
         reader::compare(seed, PIECES).unwrap_or_else(|difference| panic!("{difference}"));
         rows::compare(seed, BOOKS).unwrap_or_else(|difference| panic!("{difference}"));
+        let days = daybook::compare::run(&port::replay, seed, DAYS, 1);
+        days.unwrap_or_else(|difference| panic!("{place:?}, {difference}"));
     }
 }
 

@@ -1,4 +1,4 @@
-//! Every call of the port beside the Rust and the model, trials with something amiss, and each run of messages replayed beside single calls.
+//! Every call of the port beside the Rust and the model, trials with something amiss, and each run of messages in one call beside single ones.
 //! Built with the feature `port` only; SEED, STREAMS and CALLS give another run.
 //!
 //! A call costs as much as its book is large, and a stream's books grow. So most calls are made in short streams, and one long
@@ -74,10 +74,10 @@ fn fills_a_book(tally: &Tally) {
     assert!(tally.most_grown > CEILING - 100, "messages fill a book");
 }
 
-/// Runs of a hundred messages and more were replayed.
-fn replays_long_runs(tally: &Tally) {
-    let long = tally.cases.times("replay", "long run");
-    assert!(long > 0, "no long run was replayed");
+/// Runs of a hundred messages and more went through one call.
+fn met_long_runs(tally: &Tally) {
+    let long = tally.cases.times("apply_all", "long run");
+    assert!(long > 0, "no long run was met");
 }
 
 #[test]
@@ -101,5 +101,5 @@ fn a_long_stream_agrees() {
     println!("seed {seed}: {tally:?}");
     applies_messages(&tally);
     fills_a_book(&tally);
-    replays_long_runs(&tally);
+    met_long_runs(&tally);
 }

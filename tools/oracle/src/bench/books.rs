@@ -57,13 +57,13 @@ impl Ours {
         port::bootstrap(&mut self.block, &mut self.rows, &mut self.segments, piece)
     }
 
-    pub fn replay(&mut self, messages: &[u64], answers: &mut [u64]) -> u64 {
+    pub fn apply_all(&mut self, messages: &[u64], answers: &mut [u64]) -> u64 {
         let Ours {
             block,
             rows,
             segments,
         } = self;
-        port::replay(block, rows, segments, messages, answers)
+        port::apply_all(block, rows, segments, messages, answers)
     }
 
     pub fn apply(&mut self, message: &[u64]) -> u64 {

@@ -1,4 +1,4 @@
-//! Nanoseconds a message: the port's replay of a run and its `apply`, the Rust's `apply`, and that followed by `audit()`, on the same
+//! Nanoseconds a message: the port's `apply_all` of a run and its `apply`, the Rust's `apply`, and that followed by `audit()`, on the same
 //! messages.
 
 use super::books::{self, Ours};
@@ -9,13 +9,13 @@ use crate::port::CHANGED;
 use crate::reader::message_words;
 use crate::rust::convert;
 
-fn replayed(mix: &Mix) -> f64 {
+fn in_one_call(mix: &Mix) -> f64 {
     let words: Vec<u64> = mix.messages.iter().flat_map(message_words).collect();
     let mut answers = vec![0; MESSAGES];
     round_on(
         || Ours::loaded(&mix.snapshot),
         |book| {
-            assert_eq!(book.replay(&words, &mut answers), 0);
+            assert_eq!(book.apply_all(&words, &mut answers), 0);
             assert!(answers.iter().all(|&answer| answer == CHANGED));
         },
     )
@@ -47,14 +47,14 @@ fn theirs(mix: &Mix, audited: bool) -> f64 {
     )
 }
 
-/// Ours and theirs, a message: the replay by `apply`, `apply` by `apply`, and `apply` by `apply` and `audit()`.
+/// Ours and theirs, a message: `apply_all` by `apply`, `apply` by `apply`, and `apply` by `apply` and `audit()`.
 pub fn measure(mix: &Mix) -> [[f64; 2]; 3] {
     let runs = [
-        replayed(mix),
+        in_one_call(mix),
         applied(mix),
         theirs(mix, false),
         theirs(mix, true),
     ];
-    let [replay, apply, alone, audited] = runs.map(|run| run / MESSAGES as f64);
-    [[replay, alone], [apply, alone], [apply, audited]]
+    let [all, apply, alone, audited] = runs.map(|run| run / MESSAGES as f64);
+    [[all, alone], [apply, alone], [apply, audited]]
 }

@@ -16,9 +16,9 @@ fn column(orders: usize) -> Vec<Cell> {
     let mix = Mix::new(orders);
     let (both, stale) = (Both::after(&mix), Both::invalidated(&mix));
     let spread = Both::of(&books::spread(orders));
-    let [replay, apply, audited] = messages::measure(&mix);
+    let [all, apply, audited] = messages::measure(&mix);
     vec![
-        ("`replay` against `apply`", replay),
+        ("`apply_all` against `apply`", all),
         ("`apply`", apply),
         ("`apply` against `apply` and `audit()`", audited),
         ("`last_sequence`", both.last_sequence()),
@@ -46,7 +46,7 @@ fn column(orders: usize) -> Vec<Cell> {
 }
 
 /// Whole nanoseconds in groups of three digits, or one place below ten.
-fn nanoseconds(value: f64) -> String {
+pub fn nanoseconds(value: f64) -> String {
     if value < 9.95 {
         return format!("{value:.1}");
     }
@@ -56,7 +56,7 @@ fn nanoseconds(value: f64) -> String {
     groups.join(",")
 }
 
-fn ratio([ours, theirs]: [f64; 2]) -> String {
+pub fn ratio([ours, theirs]: [f64; 2]) -> String {
     match ours / theirs {
         small @ ..9.995 => format!("{small:.2}"),
         large => nanoseconds(large),

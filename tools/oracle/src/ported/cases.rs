@@ -85,7 +85,7 @@ fn expected() -> impl Iterator<Item = (&'static str, &'static str)> {
     let all = lists.chain([("between steps", BETWEEN)]);
     let all = all.flat_map(|(call, cases)| cases.iter().map(move |&case| (call, case)));
     let message = |call| amiss::no_messages().map(move |name| (call, name));
-    all.chain(["apply", "step", "replay"].into_iter().flat_map(message))
+    all.chain(["apply", "step", "apply_all"].into_iter().flat_map(message))
 }
 
 /// The reasons that make a book invalid, with the details of 38.
@@ -117,7 +117,7 @@ const EXPECTED: &[(&str, &[&str])] = &[
     ("bootstrap", BOOTSTRAP),
     ("handshake", &["no segment"]),
     ("step", STEP),
-    ("replay", REPLAY),
+    ("apply_all", APPLY_ALL),
     ("last_sequence", &[]),
     ("best", &[]),
     ("audit", &[]),
@@ -165,7 +165,7 @@ const STEP: &[&str] = &[
     "17 ends it",
 ];
 
-const REPLAY: &[&str] = &[
+const APPLY_ALL: &[&str] = &[
     "run",
     "run told 1",
     "run told 2",

@@ -24,7 +24,7 @@ pub const TRIALS: &[(&str, &[&[&str]])] = &[
     ("apply", &[STATE, ROWS, LIST, &["message short"]]),
     ("bootstrap", &[STATE, ROWS, LIST]),
     ("step", &[STATE, ROWS, LIST, STEP]),
-    ("replay", &[STATE, ROWS, LIST, &["answers short"]]),
+    ("apply_all", &[STATE, ROWS, LIST, &["answers short"]]),
     ("handshake", &[STATE, &["output short"]]),
     ("invalidation", &[STATE, &["output short"]]),
     ("segment", &[STATE, &["output short"]]),
@@ -45,7 +45,7 @@ const RULES: &[(&str, &[u64])] = &[
     ("apply", &[5, 10, 15, 16, 17, 256]),
     ("bootstrap", &[4, 5, 6, 10, 11, 12, 13, 14]),
     ("step", &[9, 5, 10, 16, 17, 256, 512]),
-    ("replay", &[]),
+    ("apply_all", &[]),
     ("handshake", &[]),
     ("invalidation", &[256]),
     ("segment", &[256]),
@@ -130,7 +130,7 @@ mod tests {
         ("queue_estimate_own", &[1, 2, 3, 15, 18, 51, 52]),
         ("volume_ahead", &[1, 2, 3, 8, 15, 18, 50, 51, 52]),
         ("invalidation", &[3, 256]),
-        ("replay", &[1, 2, 3]),
+        ("apply_all", &[1, 2, 3]),
     ];
 
     #[test]

@@ -1,5 +1,5 @@
-//! Runs of messages: those that a book was handed one by one, words of no message put among them, are replayed on a copy of its memory as it
-//! was before, beside single calls on another copy.
+//! Runs of messages: those that a book was handed one by one, words of no message put among them, are applied in one call on a copy of its memory as
+//! it was before, beside single calls on another copy.
 
 use super::book::{Book, Extent, GUARD, GUARDS, at};
 use super::boundary::{Given, NO_VALUE};
@@ -10,9 +10,9 @@ use crate::call::{Act, Call, Lent};
 use crate::generate::random::Random;
 use crate::port::{self, MESSAGE_WORDS};
 
-/// After how many messages in a hundred a run is replayed that could go on.
+/// After how many messages in a hundred a run is handed over that could go on.
 const END_PERCENT: u64 = 1;
-/// How many runs without a message in a hundred are replayed.
+/// How many runs without a message in a hundred are handed over.
 const EMPTY_PERCENT: u64 = 25;
 /// Before how many messages in a hundred, and before the end, words of no message are put.
 const NO_MESSAGE_PERCENT: u64 = 10;
@@ -28,7 +28,7 @@ pub struct Run {
     answers: Vec<u64>,
 }
 
-/// The words that a replay is lent beside the book's.
+/// The words that a run is lent beside the book's.
 struct Words {
     messages: Vec<u64>,
     answers: Vec<u64>,
@@ -49,7 +49,7 @@ impl Run {
         self.answers.push(answer);
     }
 
-    /// What the replay is to answer: 1, 2 or 3 as any message is, else 0.
+    /// What the run is to answer: 1, 2 or 3 as any message is, else 0.
     fn number(&self) -> u64 {
         let ask = || apply(&mut self.before.clone(), &self.lent, &ANY_MESSAGE);
         let told = |answer: &&u64| **answer != NO_VALUE;
@@ -67,7 +67,7 @@ impl Run {
             if random.chance(NO_MESSAGE_PERCENT) {
                 let mut message = ANY_MESSAGE;
                 message[1..].fill_with(|| random.word());
-                cases.add("replay", amiss::spoil_message(&mut message, random));
+                cases.add("apply_all", amiss::spoil_message(&mut message, random));
                 run.push(&message, NO_VALUE);
             }
         };
@@ -90,7 +90,7 @@ impl Run {
         book
     }
 
-    /// Replays the messages, with part of another behind them.
+    /// Hands the messages over, with part of another behind them.
     fn check(&self, random: &mut Random, cases: &mut Cases) {
         let (count, mut book) = (self.answers.len(), self.before.clone());
         let mut words = Words {
@@ -106,22 +106,22 @@ impl Run {
         let extent = Extent::drawn(random);
         let number = book.lend(&self.lent, extent, |state, rows, segments| {
             let answers = &mut words.answers[..room];
-            port::replay(state, rows, segments, &words.messages, answers)
+            port::apply_all(state, rows, segments, &words.messages, answers)
         });
-        assert_eq!(number, self.number(), "the number of a replay");
+        assert_eq!(number, self.number(), "the number of a run");
         let mut expected = match number {
             0 => self.answers.clone(),
             _ => vec![GUARD; count],
         };
         expected.extend([GUARD; GUARDS]);
-        assert_eq!(words.answers, expected, "the answers of a replay");
-        book.check_same(&self.singly(), "a replay");
+        assert_eq!(words.answers, expected, "the answers of a run");
+        book.check_same(&self.singly(), "a run");
         self.note(number, cases);
     }
 
-    /// The same replay with something amiss.
+    /// The same run with something amiss.
     fn amiss(&self, words: &mut Words, random: &mut Random, cases: &mut Cases) {
-        let mut trial = Trial::new("replay", &self.before.block, random);
+        let mut trial = Trial::new("apply_all", &self.before.block, random);
         let (count, mut room) = (self.answers.len(), words.answers.len());
         if count > 0 && amiss::drawn(random) {
             room = amiss::short(count, random);
@@ -139,14 +139,14 @@ impl Run {
         };
         (self.before).turns_away(&self.lent, &trial, number, |state, rows, segments| {
             let answers = &mut words.answers[..room];
-            port::replay(state, rows, segments, &words.messages, answers)
+            port::apply_all(state, rows, segments, &words.messages, answers)
         });
         let kept = words.answers.iter().all(|&word| word == GUARD);
         assert!(kept, "a trial leaves the answers");
     }
 
     fn note(&self, number: u64, cases: &mut Cases) {
-        let mut add = |case| cases.add("replay", case);
+        let mut add = |case| cases.add("apply_all", case);
         forms::of(&self.before.block).map(&mut add);
         match (number, self.answers.is_empty()) {
             (0, false) => add("run"),
@@ -216,7 +216,7 @@ impl Ported {
             for _ in 0..self.random.below(4) {
                 run.push(message, answer);
             }
-            self.replay(&run);
+            self.apply_all(&run);
             return Some(());
         }
         let run = self.runs.get_mut(&call.book)?;
@@ -228,12 +228,12 @@ impl Ported {
         Some(())
     }
 
-    fn replay(&mut self, run: &Run) {
+    fn apply_all(&mut self, run: &Run) {
         let run = run.with_no_messages(&mut self.random, &mut self.cases);
         run.check(&mut self.random, &mut self.cases);
     }
 
-    /// Replays the run of the call's book.
+    /// Hands over the run of the call's book.
     fn end_run(&mut self, call: &Call) {
         let Some(book) = self.books.get(&call.book) else {
             return;
@@ -241,7 +241,7 @@ impl Ported {
         let run = self.runs.remove(&call.book);
         let run = run.unwrap_or_else(|| Run::new(book, call.lent));
         if !run.answers.is_empty() || self.random.chance(EMPTY_PERCENT) {
-            self.replay(&run);
+            self.apply_all(&run);
         }
     }
 
