@@ -14,10 +14,11 @@
 pub mod book;
 #[path = "../../../docs/src/l3/message.rs"]
 pub mod message;
+pub(crate) mod pieces;
 pub mod queue;
 mod reasons;
 pub mod reconstructor;
-mod words;
+pub(crate) mod words;
 
 pub use book::PriorityEvidence;
 pub use message::{

@@ -24,11 +24,16 @@
 //! # Ok::<(), pinuglaw::l3::SnapshotError>(())
 //! ```
 //!
+//! [`daybook()`] lists which stretches of a day could be shown, from a file of its snapshots and messages.
+//!
 //! What differs from the Rust, beyond what [`l3`] says, is in `docs/DIFFERENCES.md`. [`sys`] has the exported functions themselves.
 
 #![deny(missing_docs)]
 
 pub use rust_decimal::Decimal;
 
+pub mod daybook;
 pub mod l3;
 pub mod sys;
+
+pub use daybook::daybook;

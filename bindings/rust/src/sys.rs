@@ -34,7 +34,7 @@ macro_rules! exported {
 exported! {
     /// Reads a message piece into [`MESSAGE_WORDS`].
     fn pinuglaw_read_message as read_message(bytes: &[u8], out: &mut [u64]) -> u64;
-    /// Reads a snapshot piece's header into five words: product (two), sequence, number of bids, number of asks.
+    /// Reads a snapshot piece's header into [`SNAPSHOT_WORDS`]: product (two), sequence, number of bids, number of asks.
     fn pinuglaw_read_snapshot as read_snapshot(bytes: &[u8], out: &mut [u64]) -> u64;
     /// Reads the order at a place of a snapshot piece into four words: id (two), price, size.
     fn pinuglaw_snapshot_order as snapshot_order(bytes: &[u8], place: usize, out: &mut [u64]) -> u64;
@@ -45,7 +45,7 @@ exported! {
     /// Applies a message: [`BOOK_CHANGED`], 0 for one without effect, else 01's number.
     fn pinuglaw_apply as apply(state: &mut [u64], rows: &mut [u64], segments: &mut [u64], message: &[u64]) -> u64;
     /// Applies messages, [`MESSAGE_WORDS`] each, in turn, the number of each into a word of `answers`: 0, or 1, 2 or 3 of them all.
-    fn pinuglaw_replay as replay(state: &mut [u64], rows: &mut [u64], segments: &mut [u64], messages: &[u64], answers: &mut [u64]) -> u64;
+    fn pinuglaw_apply_all as apply_all(state: &mut [u64], rows: &mut [u64], segments: &mut [u64], messages: &[u64], answers: &mut [u64]) -> u64;
     /// Takes a snapshot piece.
     fn pinuglaw_bootstrap as bootstrap(state: &mut [u64], rows: &mut [u64], segments: &mut [u64], bytes: &[u8]) -> u64;
     /// Makes a handshake for the segment that the book is in, an ended one where there is none.
@@ -76,9 +76,11 @@ exported! {
     fn pinuglaw_queue_estimate_own as queue_estimate_own(state: &[u64], rows: &[u64], id_high: u64, id_low: u64, estimate: &mut [u64]) -> u64;
     /// The volume ahead of an estimate, into [`VOLUME_WORDS`].
     fn pinuglaw_volume_ahead as volume_ahead(state: &[u64], rows: &[u64], estimate: &[u64], ahead: &[u64], out: &mut [u64]) -> u64;
+    /// Replays a day file and lists its segments: the listing's length, or 7 where it exceeds `listing`. [`LISTING_BYTES`] are always enough.
+    fn pinuglaw_replay as replay(file: &[u8], listing: &mut [u8]) -> u64;
 }
 
-// The numbers of 01's table.
+// The numbers in force (docs/NUMBERS.md).
 /// An order or level limit above 4,096.
 pub const LIMIT_ABOVE_CEILING: u64 = 1;
 /// Rows, scratch or the segment list too short.
@@ -157,6 +159,9 @@ pub const STALE_ESTIMATE: u64 = 50;
 pub const PRIORITY_UNKNOWN: u64 = 51;
 /// The own order does not rest.
 pub const NOT_RESTING: u64 = 52;
+
+/// A file that breaks the rules of a day file, or is longer than [`DAY_FILE_BYTES`]; said in its listing.
+pub const NOT_A_DAY_FILE: u64 = 60;
 
 /// The answer to a message that was applied and changed the book.
 pub const BOOK_CHANGED: u64 = 256;
@@ -255,6 +260,8 @@ pub const INVALIDATION_WORDS: usize = 6;
 // Other blocks.
 /// The words of a message.
 pub const MESSAGE_WORDS: usize = 21;
+/// The words of a snapshot's header.
+pub const SNAPSHOT_WORDS: usize = 5;
 /// The messages that a handshake has applied.
 pub const HANDSHAKE_APPLIED: usize = 3;
 /// The words of a handshake.
@@ -277,3 +284,9 @@ pub const ESTIMATE_WORDS: usize = 8;
 pub const AHEAD_WORDS: usize = 3;
 /// The words of a volume ahead.
 pub const VOLUME_WORDS: usize = 7;
+
+// Day files.
+/// The most bytes of a day file.
+pub const DAY_FILE_BYTES: usize = 65_536;
+/// The most bytes of its listing.
+pub const LISTING_BYTES: usize = 8192;

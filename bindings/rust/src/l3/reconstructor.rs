@@ -8,6 +8,7 @@ use std::fmt;
 use std::sync::atomic::{AtomicU64, Ordering};
 
 use super::message::{L3Message, L3Snapshot};
+use super::pieces;
 use super::reasons::{self, Met};
 use super::words;
 use crate::sys::{
@@ -152,7 +153,7 @@ impl BookReconstructor {
         // No bytes are no piece: where the snapshot has none, the library says so at its place.
         let piece = self
             .product_words(&snapshot.product_id)
-            .and_then(|product| words::snapshot_piece(product, snapshot))
+            .and_then(|product| pieces::snapshot_piece(product, snapshot))
             .unwrap_or_default();
         let records = self.state[STATE_SEGMENTS] as usize + 1;
         self.segments.resize(SEGMENT_WORDS * records, 0);

@@ -1,8 +1,6 @@
-//! Values as the library's words and pieces, and back.
+//! Values as the library's words, and back.
 
-use super::message::{
-    ChangeReason, DoneReason, L3Event, L3Message, L3Side, L3Snapshot, SnapshotOrder,
-};
+use super::message::{ChangeReason, DoneReason, L3Event, L3Message, L3Side};
 use crate::Decimal;
 use crate::sys::MESSAGE_WORDS;
 
@@ -106,7 +104,8 @@ pub fn message_words(product: [u64; 2], message: &L3Message) -> Option<[u64; MES
     words.try_into().ok()
 }
 
-fn kind_word(event: &L3Event) -> u64 {
+/// The number of an event's kind, in words and in pieces.
+pub fn kind_word(event: &L3Event) -> u64 {
     match event {
         L3Event::Received { .. } => 1,
         L3Event::Open { .. } => 2,
@@ -190,30 +189,6 @@ fn optional_words(words: &mut Vec<u64>, event: &L3Event) -> Option<()> {
         _ => unreachable!("called for events with optional amounts"),
     }
     Some(())
-}
-
-/// The piece of a snapshot of a product; none where an id is no UUID or a count does not fit its four bytes.
-pub fn snapshot_piece(product: [u64; 2], snapshot: &L3Snapshot) -> Option<Vec<u8>> {
-    let orders = snapshot.bids.len().saturating_add(snapshot.asks.len());
-    let mut bytes = Vec::with_capacity(orders.saturating_mul(32).saturating_add(41));
-    bytes.push(0);
-    bytes.extend(product.into_iter().flat_map(u64::to_be_bytes));
-    bytes.extend(snapshot.sequence.to_le_bytes());
-    bytes.extend([0; 8]);
-    for side in [&snapshot.bids, &snapshot.asks] {
-        bytes.extend(u32::try_from(side.len()).ok()?.to_le_bytes());
-    }
-    for SnapshotOrder {
-        order_id,
-        price,
-        size,
-    } in snapshot.bids.iter().chain(&snapshot.asks)
-    {
-        bytes.extend(id_of(order_id)?.to_be_bytes());
-        bytes.extend(units(*price).to_le_bytes());
-        bytes.extend(units(*size).to_le_bytes());
-    }
-    Some(bytes)
 }
 
 #[cfg(test)]
