@@ -3,7 +3,7 @@
 
     check_declarations.py [ROOT]
 
-Names, order of parameters, widths, const or not; the numbers of 01's table; the word layouts that a definition names field by field; the sizes and bounds, which
+Names, order of parameters, widths, const or not; the numbers in force, their words and their definitions; the word layouts that a definition names field by field; the sizes and bounds, which
 the header, the code that runs, the definitions and the oracle name once each. Prints each difference; exits 1 if there is one, or if a file has nothing to
 compare.
 """
@@ -17,6 +17,7 @@ HOST = "crates/host/src/lib.rt"
 HEADER = "include/pinuglaw.h"
 SYS = "bindings/rust/src/sys.rs"
 SCOPE = "docs/01-scope.md"
+NUMBERS = "docs/NUMBERS.md"
 
 # A type of the Rattle source as the parameters it becomes in C, by the names they get.
 C_TYPES = {"u64": "uint64_t", "u8": "uint8_t", "usize": "size_t", "bool": "bool"}
@@ -89,9 +90,36 @@ def header_numbers():
 BESIDE_THE_TABLE = {0, 256, 512, 768}
 
 
-def table_numbers():
-    """The numbers of 01's table, and those besides."""
-    return {int(number) for number in re.findall(r"^\|(\d+)\*?\|", read(SCOPE), re.M)} | BESIDE_THE_TABLE
+def in_force():
+    """The table in force: number to its words, its definitions as files and names, and the paper that added or reworded it."""
+    found = re.findall(r"^\|(\d+)\|(.*?)\|(.*?)\|(\d*)\|$", read(NUMBERS), re.M)
+    return {int(number): (words, definitions(cell), paper) for number, words, cell, paper in found}
+
+
+def definitions(cell):
+    """`a`, `b` (`file`); `c` (`other`) as pairs of a file and a name."""
+    for names, file in re.findall(r"([^;]*?) \(`(.*?)`\)", cell):
+        yield from ((f"crates/{file}.antt", name) for name in re.findall(r"`(.*?)`", names))
+
+
+def number_differences():
+    """Where the table in force is not 01's with the papers' rows, names no definition, or is not the header's."""
+    table = in_force()
+    scope = {int(number): words for number, words in re.findall(r"^\|(\d+)\*?\|(.*?)\|", read(SCOPE), re.M)}
+    if not scope or not table:
+        yield f"{NUMBERS} and {SCOPE}: nothing to compare"
+    for number in sorted(scope.keys() | table.keys()):
+        words, places, paper = table.get(number, ("", [], ""))
+        if not paper and words != scope.get(number):
+            yield f"{NUMBERS} and {SCOPE}: {number}: no paper is named, and the words are not 01's"
+        places = list(places)
+        if not places:
+            yield f"{NUMBERS}: {number}: no definition"
+        for file, name in places:
+            if not (ROOT / file).exists() or not re.search(rf"pub {name} :", read(file)):
+                yield f"{NUMBERS}: {number}: {name} is not in {file}"
+    if header_numbers() != table.keys() | BESIDE_THE_TABLE:
+        yield f"{HEADER} and {NUMBERS}: the numbers differ: {sorted(header_numbers() ^ (table.keys() | BESIDE_THE_TABLE))}"
 
 
 def defined(prefix, file, function, index):
@@ -121,6 +149,8 @@ SIZES = {
     "AHEAD_WORDS": ("book_queue/src/lib.rt", "AHEAD_ENTRY_WORDS", "book_queue/specs/Queue.antt", "entryWidth Ahead"),
     "PROFILE_WORDS": ("reconstructor_reads/src/lib.rt", "PROFILE_WORDS", "reconstructor_reads/specs/LevelReads.antt", "profileWords"),
     "L2_WORDS": ("reconstructor_reads/src/lib.rt", "L2_WORDS", "reconstructor_reads/specs/LevelReads.antt", "l2Words"),
+    "DAY_FILE_BYTES": ("daybook_file/src/lib.rt", "DAY_BYTES", "daybook_file/specs/DayFile.antt", "dayBytes"),
+    "LISTING_BYTES": ("daybook/src/lib.rt", "LISTING_BYTES", "daybook_lines/specs/Most.antt", "listingBytes"),
 }
 
 # Those that the oracle names for itself, since its model is written from the paper alone.
@@ -130,6 +160,7 @@ ORACLE = {
     "SEGMENT_WORDS": [("ported/book.rs", "RECORD"), ("vectors/words.rs", "RECORD")],
     "STATE_WORDS": [("vectors/words.rs", "BLOCK")],
     "AHEAD_WORDS": [("model/queue.rs", "ENTRY_WORDS")],
+    "DAY_FILE_BYTES": [("daybook.rs", "LONGEST")],
 }
 
 # The index and an estimate's list hold as many orders as the ceiling admits. A bound that parts from the ceiling leaves this table.
@@ -181,8 +212,7 @@ def all_differences():
     for what, part in [(SYS, sys_constants()), ("the state's words", state_words()), ("a record's words", segment_words())]:
         yield from differences(f"{what} and {HEADER}", part, {k: v for k, v in constants.items() if k in part})
     yield from size_differences(constants)
-    if header_numbers() != table_numbers():
-        yield f"{HEADER} and {SCOPE}: the numbers differ: {sorted(header_numbers() ^ table_numbers())}"
+    yield from number_differences()
 
 
 found = list(all_differences())

@@ -6,7 +6,7 @@
  * lent must not overlap. A slice of length 0 may have any pointer that is not null.
  *
  * "01" is docs/01-scope.md; what each call answers and writes is proved in crates/host. A call answers 0 or a number (enum pinuglaw_number), the first of these
- * that holds:
+ * that holds; pinuglaw_replay, which is lent no book, answers as its comment says:
  *
  *   768      An input of fixed size is lent too short: a state, a message, a handshake, an estimate.
  *   4        Words that no value has: a kind, side, reason, presence, own, ended or size_decrease word that the layouts below do not give, an unsupported number
@@ -33,7 +33,7 @@
 extern "C" {
 #endif
 
-/* 01's table, three answers that are no refusals, and 768. */
+/* The table of numbers in force (docs/NUMBERS.md), three answers that are no refusals, and 768. */
 enum pinuglaw_number {
     PINUGLAW_OK = 0, /* of a message: applied, the book unchanged */
     PINUGLAW_LIMIT_ABOVE_CEILING = 1, /* an order or level limit above 4,096 */
@@ -75,6 +75,7 @@ enum pinuglaw_number {
     PINUGLAW_STALE_ESTIMATE = 50,
     PINUGLAW_PRIORITY_UNKNOWN = 51,
     PINUGLAW_NOT_RESTING = 52,
+    PINUGLAW_NOT_A_DAY_FILE = 60, /* listed by pinuglaw_replay, never answered */
     PINUGLAW_BOOK_CHANGED = 256, /* of a message: applied, the book changed */
     PINUGLAW_NOT_STALE = 256, /* of pinuglaw_stale_l2 and pinuglaw_invalidation: the book is not invalid, nothing is written */
     PINUGLAW_NO_RECORD = 256, /* of pinuglaw_segment: no record there, nothing is written */
@@ -325,6 +326,20 @@ uint64_t pinuglaw_read_snapshot(const uint8_t *bytes, size_t bytes_len, uint64_t
  * output (7).
  */
 uint64_t pinuglaw_snapshot_order(const uint8_t *bytes, size_t bytes_len, size_t place, uint64_t *out, size_t out_len);
+
+/* ---- A day file. */
+
+/* The most bytes that a day file has, and a length that no listing exceeds. */
+#define PINUGLAW_DAY_FILE_BYTES 65536
+#define PINUGLAW_LISTING_BYTES 8192
+
+/*
+ * Replays a day file on a book of its own, and writes the listing of its segments at the front of `listing`, as lines of ASCII. Answers the listing's length,
+ * never 7 and at most PINUGLAW_LISTING_BYTES; or 7, and nothing is written, where the slice is shorter. Any bytes have a listing: those that are no day file,
+ * a zero count of everything and `stop 0 60`. A day file (integers little-endian): a count of 4 bytes, as many pairs of offset and length, 4 bytes each, and
+ * the pieces, snapshots and messages in their order. Offsets count from the first byte and rise; no piece reaches past the next one's offset or the end.
+ */
+uint64_t pinuglaw_replay(const uint8_t *file, size_t file_len, uint8_t *listing, size_t listing_len);
 
 /* ---- A new book. */
 

@@ -49,7 +49,7 @@ static void same_words(int line, const char *what, const uint64_t *got, const ui
 /* ---- Pieces, as 01 has them: integers little-endian, ids in text order. */
 
 struct piece {
-    uint8_t bytes[256];
+    uint8_t bytes[512];
     size_t length;
 };
 
@@ -671,6 +671,55 @@ static void check_apply_all(void)
     SAME_BOOK(&book, &singly);
 }
 
+/* ---- A day file: the snapshot of E, an open, a match, and the match as the line re-sent it. */
+
+static struct piece day_of_e(void)
+{
+    enum { PIECES = 4, COUNT_BYTES = 4, PAIR_BYTES = 8 };
+    const struct piece pieces[PIECES] = {snapshot_of_e(100), open_piece(101, C, 10, 5), match_piece(102, A, 2), match_piece(102, A, 2)};
+    struct piece day = {.length = 0};
+    size_t offset = COUNT_BYTES + PAIR_BYTES * PIECES;
+    put_little(&day, PIECES, 4);
+    for (size_t i = 0; i < PIECES; i++) {
+        put_little(&day, offset, 4);
+        put_little(&day, pieces[i].length, 4);
+        offset += pieces[i].length;
+    }
+    for (size_t i = 0; i < PIECES; i++)
+        for (size_t k = 0; k < pieces[i].length; k++)
+            put_byte(&day, pieces[i].bytes[k]);
+    return day;
+}
+
+/* The file is listed as `expected`, in a slice that it fills and in one with a byte to spare; in one a byte short it is 7. No other byte is written. */
+static void check_listing(const uint8_t *file, size_t length, const char *expected)
+{
+    uint8_t listing[PINUGLAW_LISTING_BYTES];
+    const size_t n = strlen(expected);
+    memset(listing, JUNK, sizeof listing);
+    SAME(pinuglaw_replay(file, length, listing, n - 1), PINUGLAW_OUTPUT_TOO_SMALL);
+    for (size_t i = 0; i <= n; i++)
+        SAME(listing[i], JUNK);
+    for (size_t spare = 0; spare < 2; spare++) {
+        memset(listing, JUNK, sizeof listing);
+        SAME(pinuglaw_replay(file, length, listing, n + spare), n);
+        SAME(memcmp(listing, expected, n), 0);
+        SAME(listing[n], JUNK);
+    }
+}
+
+static void check_day(void)
+{
+    static const char NO_DAY[] = "counts 0 0 0 0 0 0 0 0 0 0 0 0\nstop 0 60\n";
+    static const uint8_t too_long[PINUGLAW_DAY_FILE_BYTES + 1];
+    const struct piece day = day_of_e();
+    check_listing(day.bytes, day.length, "segment 1 100 102 21 1000\ncounts 0 1 0 1 0 0 0 0 0 0 0 0\n");
+    check_listing(day.bytes, day.length - 1, NO_DAY);
+    check_listing(day.bytes, 0, NO_DAY);
+    check_listing(too_long, sizeof too_long, NO_DAY);
+    check_listing(too_long, sizeof too_long - 1, "counts 0 0 0 0 0 0 0 0 0 0 0 0\n");
+}
+
 int main(void)
 {
     struct book b = new_book();
@@ -689,6 +738,7 @@ int main(void)
     check_words_of_no_value();
     check_states_of_no_book();
     check_apply_all();
+    check_day();
     printf("C: %u checks, %u failed\n", checks, failures);
     return failures != 0;
 }
