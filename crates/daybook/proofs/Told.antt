@@ -20,7 +20,7 @@ use Rattle.daybook_replay.specs.declared.Stop.{Stop}
 use Rattle.daybook_replay.specs.declared.Stop.the-variants.{At}
 use Rattle.daybook_replay.specs.Replay.{dayOf}
 use Rattle.daybook_lines.specs.Listed.{countsIn, countsWord, countsLine, stopLine, ending, segmentLines, listed}
-use Rattle.daybook.specs.Listing.{listing, ReplayCall, replayCalled, replayCall}
+use Rattle.daybook.specs.Listing.{notADayFile, listing, ReplayCall, replayCalled, replayCall}
 
 -- a number behind a space takes two bytes at least
 numbers-long : (ns : List ℕ) → 2 * length ns ≤ length (spaced (map decimal ns))
@@ -42,9 +42,9 @@ pub listing-long : (f : List ℕ) → 31 ≤ length (listing f)
 unfolding listing
 listing-long f = go (dayShaped f)
   where
-    go : (b : Bool) → 31 ≤ length (cond b (listed (dayOf f)) (ending noCounts (At 0 60)))
+    go : (b : Bool) → 31 ≤ length (cond b (listed (dayOf f)) (ending noCounts (At 0 notADayFile)))
     go true = listed-long (dayOf f)
-    go false = ending-long noCounts (At 0 60)
+    go false = ending-long noCounts (At 0 notADayFile)
 
 -- 7 is said exactly where the slice is shorter than the listing
 pub seven-tells : (f out : List ℕ) → replayCall f out .number ≡ 7 → length out < length (listing f)

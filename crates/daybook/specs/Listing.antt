@@ -10,9 +10,13 @@ use Rattle.daybook_replay.specs.declared.Stop.the-variants.{At}
 use Rattle.daybook_replay.specs.Replay.{dayOf}
 use Rattle.daybook_lines.specs.Listed.{ending, listed}
 
--- 02, paper 1: "60, a file that breaks these rules or is longer, listed as zero counts and `stop 0 60` before any piece is read"
+-- 02, paper 1: "60, a file that breaks these rules or is longer"
+abbrev pub notADayFile : ℕ
+notADayFile = 60
+
+-- such a one is "listed as zero counts and `stop 0 60` before any piece is read"
 unfoldable pub listing : List ℕ → List ℕ
-listing f = cond (dayShaped f) (listed (dayOf f)) (ending noCounts (At 0 60))
+listing f = cond (dayShaped f) (listed (dayOf f)) (ending noCounts (At 0 notADayFile))
 
 -- what the call answers, and the host's slice afterwards
 pub record ReplayCall : Type 0 where

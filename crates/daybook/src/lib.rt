@@ -7,11 +7,14 @@ use daybook_replay::replay_day;
 use reconstructor_counts::MessageCounts;
 use text::put_bytes;
 ghost use mathlib.Core.Path.{_≡_};
-ghost use Prim.Native.Nat.{_≤_};
+ghost use Prim.Native.Nat.{_≤_, _<_};
 ghost use lib.ListN.{length};
 ghost use Rattle.text.specs.Writes.{Writes};
 ghost use Rattle.daybook_lines.specs.Most.{listingBytes};
 ghost use Rattle.daybook.specs.Listing.{listing as Listing·listing, replayCalled, replayCall};
+
+// A file that breaks the rules of a day file, or is longer than one may be.
+const NOT_A_DAY_FILE: u64 = 60;
 
 // No listing is longer.
 pub const LISTING_BYTES: usize = 8192;
@@ -25,7 +28,7 @@ fn list(file: &[u8], text: &mut [u8]) -> usize
     if !day_shaped(file) {
         let stop = Stop::At {
             piece: 0,
-            number: 60,
+            number: NOT_A_DAY_FILE,
         };
         return put_ending(text, 0, MessageCounts::new(), stop);
     }
@@ -36,6 +39,7 @@ fn list(file: &[u8], text: &mut [u8]) -> usize
 pub fn replay(file: &[u8], listing: &mut [u8]) -> u64
     ensures { λ r. ⌜ replayCalled r (now (listing .exit)) ≡ replayCall (now (file .entry)) (now (listing .entry)) ⌝ }
     ensures bounded { λ _. ⌜ length (Listing·listing (now (file .entry))) ≤ listingBytes ⌝ }
+    ensures told { λ _. ⌜ 7 < length (Listing·listing (now (file .entry))) ⌝ }
 {
     let mut text = [0u8; LISTING_BYTES];
     let n = list(file, &mut text);

@@ -67,9 +67,9 @@ unfoldable pub stopLine : Stop → List ℕ
 stopLine Never = []
 stopLine (At piece number) = line stopWord (decimal piece ∷ decimal number ∷ [])
 
--- counts and stop; before them a line a segment, of those that the book has
 unfoldable pub ending : MessageCounts → Stop → List ℕ
 ending c stop = countsLine c ++ stopLine stop
 
+-- "A line a segment", of those that the book has; then counts and stop
 unfoldable pub listed : Day → List ℕ
 listed d = segmentLines 1 (take (d .book .segments) (d .segments)) ++ ending (d .book .counts) (d .stop)

@@ -4,9 +4,10 @@ use daybook::replay;
 use libc::STDIN_FILENO;
 use libc::STDOUT_FILENO;
 ghost use mathlib.Core.Path.{_≡_};
-ghost use Prim.Native.Nat.{_≤_};
+ghost use Prim.Native.Nat.{_≤_, _<_};
 ghost use lib.ListN.{length, take};
 ghost use Rattle.io.specs.Counts.{Counts};
+ghost use Rattle.daybook_file.specs.DayFile.{dayBytes};
 ghost use Rattle.daybook_lines.specs.Most.{listingBytes};
 ghost use Rattle.daybook.specs.Listing.{listing as Listing·listing};
 
@@ -35,8 +36,9 @@ fn read_some(into: &mut [u8]) -> Moved
     }
 }
 
-// Reads the input to its end, or as much of it as there is room for. A read that fails ends it.
+// Reads the input to its end, or as much of it as there is room for: more than a day file may have. A read that fails ends it.
 fn read_input(file: &mut [u8]) -> usize
+    requires { ⌜ dayBytes < length (now file) ⌝ }
     ensures { λ r. ⌜ Counts r (now (file .exit)) ⌝ }
 {
     let mut done: usize = 0;

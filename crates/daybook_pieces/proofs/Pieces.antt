@@ -50,8 +50,8 @@ use Rattle.reconstructor_bootstrap.specs.Places.{usableTo}
 use Rattle.reconstructor_bootstrap.proofs.Whole.{read, not-read}
 use Rattle.reconstructor_bootstrap.proofs.Laws.{refusalOf, counts-alone, accepted-usable, refused-usable}
 use Rattle.daybook_segments.specs.DaySegments.{daySegments}
-use Rattle.daybook_pieces.specs.Played.{Standing, byBootstrap, playMessage, isSnapshot, played}
-use Rattle.daybook_pieces.specs.ByValue.{PlayedTo, putBack, unstarted, byApplyTo, byBootstrapTo, playMessageTo, playedTo, Marks, Plays}
+use Rattle.daybook_pieces.specs.Played.{DayBook, Played, byBootstrap, playMessage, isSnapshot, played}
+use Rattle.daybook_pieces.specs.ByValue.{PlayedTo, unstarted, byApplyTo, byBootstrapTo, playMessageTo, playedTo, Marks, Plays}
 
 -- ---- the kind byte
 
@@ -221,11 +221,15 @@ module _ (b : BookReconstructor) (ws vs : List ℕ) (g : Segment) (bytes : List 
 
 -- ---- a piece on a list is the same with its records put back
 
+abbrev pub putBack : List Segment → ℕ → PlayedTo → Played
+putBack sg n p =
+    record { number = p .number; after = record { book = p .book; memory = p .memory; segments = set (relast sg n (p .segment)) (p .at) (p .started) } }
+
 module _ (b : BookReconstructor) (mem : Memory) (sg : List Segment) (full : length sg ≡ daySegments) where
   abbrev last : Segment
   last = lastSegment sg (b .segments)
 
-  abbrev standing : Standing
+  abbrev standing : DayBook
   standing = record { book = b; memory = mem; segments = sg }
 
   -- where no record is started, nothing is written past the list's end

@@ -4,7 +4,6 @@ use Prim.Native.Nat.{ℕ}
 use mathlib.Core.Path.{_≡_}
 use mathlib.Core.Bool.{true, cond}
 use mathlib.Core.List.{List}
-use lib.ListN.{set}
 use Rattle.piece.specs.declared.ReadMessage.{ReadMessage}
 use Rattle.piece.specs.declared.ReadMessage.the-variants.{Message, Refused}
 use Rattle.piece.specs.Piece.{pieceNumber, readMessage}
@@ -14,7 +13,7 @@ use Rattle.book_index.specs.declared.Bounds.{Bounds}
 use Rattle.book_index.specs.Index.{rowMarked, rowBounded, all, Indexed}
 use Rattle.reconstructor_answers.specs.Numbers.{answerNumber}
 use Rattle.reconstructor_segments.specs.declared.Segment.{Segment}
-use Rattle.reconstructor_segments.specs.Segments.{noSegment, relast}
+use Rattle.reconstructor_segments.specs.Segments.{noSegment}
 use Rattle.reconstructor_state.specs.declared.BookReconstructor.{BookReconstructor}
 use Rattle.reconstructor_state.specs.State.{ceiling}
 use Rattle.reconstructor_checks.specs.StateChecks.{Usable}
@@ -23,7 +22,7 @@ use Rattle.reconstructor_bootstrap.specs.Numbers.{snapshotNumber}
 use Rattle.reconstructor_bootstrap.specs.Bootstrap.{Booted, bootstrappedTo}
 use Rattle.daybook_pieces.specs.declared.Turn.{Turn}
 use Rattle.daybook_segments.specs.DaySegments.{daySegments}
-use Rattle.daybook_pieces.specs.Played.{Played, isSnapshot}
+use Rattle.daybook_pieces.specs.Played.{isSnapshot}
 
 -- what a piece leaves beside the list: as of a snapshot, the last record, and the record that is started with its place, past the list's end where none is
 pub record PlayedTo : Type 0 where
@@ -36,11 +35,6 @@ pub record PlayedTo : Type 0 where
 
 abbrev pub turned : Turn → Memory → PlayedTo
 turned t mem = record { number = t .number; book = t .book; memory = mem; segment = t .segment; at = t .at; started = t .started }
-
--- put back on the list
-abbrev pub putBack : List Segment → ℕ → PlayedTo → Played
-putBack sg n p =
-    record { number = p .number; after = record { book = p .book; memory = p .memory; segments = set (relast sg n (p .segment)) (p .at) (p .started) } }
 
 -- one that starts no record
 abbrev pub unstartedTurn : ℕ → BookReconstructor → Segment → Bounds → Turn

@@ -15,8 +15,8 @@ use Rattle.reconstructor.specs.Applied as apply
 use Rattle.reconstructor_bootstrap.specs.Numbers.{snapshotNumber}
 use Rattle.reconstructor_bootstrap.specs.Bootstrap as bootstrap
 
--- the state of a day's book, its memory and its segment list
-pub record Standing : Type 0 where
+-- a day's book: its state, its memory and its segment list
+pub record DayBook : Type 0 where
   pub book : BookReconstructor
   pub memory : Memory
   pub segments : List Segment
@@ -24,7 +24,7 @@ pub record Standing : Type 0 where
 -- the number that a piece is answered with, and what stands after it
 pub record Played : Type 0 where
   pub number : ℕ
-  pub after : Standing
+  pub after : DayBook
 
 abbrev pub byBootstrap : bootstrap.Parts → Played
 byBootstrap p = record { number = snapshotNumber (p .answer); after = record { book = p .book; memory = p .memory; segments = p .segments } }
@@ -33,7 +33,7 @@ abbrev pub byApply : apply.Parts → Played
 byApply p = record { number = answerNumber (p .answer); after = record { book = p .book; memory = p .memory; segments = p .segments } }
 
 -- a message goes through the reader: 4 or 5, or `apply` decides
-abbrev pub playMessage : ReadMessage → Standing → Played
+abbrev pub playMessage : ReadMessage → DayBook → Played
 playMessage (Refused e) s = record { number = pieceNumber e; after = s }
 playMessage (Message m) s = byApply (apply.applied ceiling (s .book) (s .memory) (s .segments) m)
 
@@ -42,6 +42,6 @@ abbrev pub isSnapshot : List ℕ → Bool
 isSnapshot [] = false
 isSnapshot (kind ∷ bytes) = eqb kind 0
 
-unfoldable pub played : Standing → List ℕ → Played
+unfoldable pub played : DayBook → List ℕ → Played
 played s bytes =
     cond (isSnapshot bytes) (byBootstrap (bootstrap.bootstrapped ceiling (s .book) (s .memory) (s .segments) bytes)) (playMessage (readMessage bytes) s)

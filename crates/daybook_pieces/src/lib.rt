@@ -29,7 +29,7 @@ pub struct Turn {
     // The number that it is answered with.
     pub number: u64,
     pub book: BookReconstructor,
-    // The last segment's record, and the record that a snapshot starts with its place: past the list's end where none is.
+    // The last segment's record; and the record that a snapshot starts, with its place, which is past the list's end where none is started.
     pub segment: Segment,
     pub at: usize,
     pub started: Segment,

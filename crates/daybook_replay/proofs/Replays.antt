@@ -24,14 +24,15 @@ use Rattle.reconstructor_checks.specs.StateChecks.{broken, Usable}
 use Rattle.reconstructor_checks.proofs.StateChecks.{segments-lent}
 use Rattle.daybook_pieces.specs.declared.Turn.{Turn}
 use Rattle.daybook_segments.specs.DaySegments.{daySegments, noSegments}
-use Rattle.daybook_pieces.specs.Played.{Standing, played}
-use Rattle.daybook_pieces.specs.ByValue.{turned, putBack, playedTo, Plays}
-use Rattle.daybook_pieces.proofs.Pieces.{Starts, stays, begins, piece-starts, played-put}
+use Rattle.daybook_pieces.specs.Played.{DayBook, played}
+use Rattle.daybook_pieces.specs.ByValue.{turned, playedTo, Plays}
+use Rattle.daybook_pieces.proofs.Pieces.{Starts, stays, begins, piece-starts, putBack, played-put}
 use Rattle.daybook_file.specs.DayFile.{pieceCount, piecesFrom, pieceAt, piecesOf, productOf}
 use Rattle.daybook_file.proofs.Days.{pieces-next, pieces-none}
 use Rattle.daybook_replay.specs.declared.Stop.{Stop}
 use Rattle.daybook_replay.specs.declared.Stop.the-variants.{Never, At}
-use Rattle.daybook_replay.specs.Replay.{dayLimit, freshRows, freshDay, goesOn, endedBy, endedWith, replayed, dayOf}
+use Rattle.daybook_replay.specs.Replay.{dayLimit, freshRows, freshDay, goesOn, endedBy, replayed, dayOf}
+use Rattle.daybook_replay.specs.ByValue.{endedWith}
 
 -- ---- a list whose last record is held apart
 
@@ -43,7 +44,7 @@ last-held : (sg : List Segment) (n : ℕ) (g : Segment) → n ≤ length sg → 
 last-held sg zero g h none = sym (none refl)
 last-held sg (suc n) g h none = getD-set-same sg n g noSegment (omega arith)
 
-abbrev pub standingOf : BookReconstructor → List ℕ → List Segment → Segment → Standing
+abbrev pub standingOf : BookReconstructor → List ℕ → List Segment → Segment → DayBook
 standingOf b ws sg g = record { book = b; memory = memory ws; segments = relast sg (b .segments) g }
 
 -- what the loop makes of list and record: a record that is started goes into the list with the one before it
@@ -52,7 +53,7 @@ pub data Keeps (sg : List Segment) (n : ℕ) (t : Turn) (sg′ : List Segment) (
   apart : daySegments ≤ t .at → sg′ ≡ sg → g′ ≡ t .segment → Keeps sg n t sg′ g′
 
 -- what a piece leaves, so held
-pub record After (s : Standing) (bytes : List ℕ) (t : Turn) (vs : List ℕ) (sg : List Segment) (g : Segment) : Type 0 where
+pub record After (s : DayBook) (bytes : List ℕ) (t : Turn) (vs : List ℕ) (sg : List Segment) (g : Segment) : Type 0 where
   pub is : played s bytes ≡ record { number = t .number; after = standingOf (t .book) vs sg g }
   pub full : length sg ≡ daySegments
   pub none : t .book .segments ≡ 0 → g ≡ noSegment

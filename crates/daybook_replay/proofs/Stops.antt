@@ -53,9 +53,9 @@ use Rattle.reconstructor_bootstrap.specs.Snapshot.{snapshotLine, snapshotRefusa
 use Rattle.reconstructor_bootstrap.specs.Bootstrap.{unlessRefused, taken, bootstrappedTo}
 use Rattle.daybook_file.specs.DayFile.{piecesOf, productOf}
 use Rattle.daybook_segments.specs.DaySegments.{daySegments}
-use Rattle.daybook_pieces.specs.Played.{Standing, isSnapshot, played}
-use Rattle.daybook_pieces.specs.ByValue.{PlayedTo, putBack, byBootstrapTo, playMessageTo, playedTo}
-use Rattle.daybook_pieces.proofs.Pieces.{snapshot-usable, played-put}
+use Rattle.daybook_pieces.specs.Played.{DayBook, isSnapshot, played}
+use Rattle.daybook_pieces.specs.ByValue.{PlayedTo, byBootstrapTo, playMessageTo, playedTo}
+use Rattle.daybook_pieces.proofs.Pieces.{snapshot-usable, putBack, played-put}
 use Rattle.daybook_replay.specs.declared.Stop.{Stop}
 use Rattle.daybook_replay.specs.declared.Stop.the-variants.{Never, At}
 use Rattle.daybook_replay.specs.Replay.{freshDay, goesOn, endedBy, replayed, dayOf}
@@ -178,11 +178,11 @@ module _ (b : BookReconstructor) (mem : Memory) (g : Segment) (bytes : List ℕ)
       go false (messages.Message m) = usable-kept ceiling b mem daySegments u g m
 
 -- a standing whose state passes 1, 2 and 3, with a whole list
-record Fit (s : Standing) : Type 0 where
+record Fit (s : DayBook) : Type 0 where
   usable : Usable ceiling (s .book) (s .memory) daySegments
   full : length (s .segments) ≡ daySegments
 
-module _ (s : Standing) (bytes : List ℕ) (f : Fit s) where
+module _ (s : DayBook) (bytes : List ℕ) (f : Fit s) where
   abbrev turn : PlayedTo
   turn = playedTo (s .book) (s .memory) (lastSegment (s .segments) (s .book .segments)) bytes
 
@@ -204,7 +204,7 @@ abbrev pub StopsBy : Stop → Type 0
 StopsBy Never = Unit {0}
 StopsBy (At piece number) = Stopping number
 
-stops : (ps : List (List ℕ)) (s : Standing) (k : ℕ) → Fit s → StopsBy (replayed s k ps .stop)
+stops : (ps : List (List ℕ)) (s : DayBook) (k : ℕ) → Fit s → StopsBy (replayed s k ps .stop)
 unfolding replayed
 stops [] s k f = tt
 stops (p ∷ ps) s k f = go (goesOn (played s p .number)) refl (stops ps (played s p .after) (k + 1) (played-fit s p f)) (played-passes s p f)

@@ -3,18 +3,17 @@ use Prim.Native.Nat.{ℕ, _+_, _*_}
 use mathlib.Core.Bool.{Bool, _||_, _&&_, cond}
 use mathlib.Core.List.{List, [], _∷_}
 use lib.Dec.{eqb, leb}
-use lib.ListN.{set, replicate}
+use lib.ListN.{replicate}
 use Rattle.message.specs.declared.ProductId.{ProductId}
 use Rattle.message.specs.Told.{changed}
 use Rattle.book.specs.Rows.{rowWords}
 use Rattle.book.specs.Memory.{memory}
 use Rattle.reconstructor_segments.specs.declared.Segment.{Segment}
-use Rattle.reconstructor_segments.specs.Segments.{noSegment, relast}
 use Rattle.reconstructor_state.specs.declared.BookReconstructor.{BookReconstructor}
 use Rattle.reconstructor_state.specs.State.{limitedRules, newBook}
 use Rattle.daybook_file.specs.DayFile.{piecesOf, productOf}
 use Rattle.daybook_segments.specs.DaySegments.{daySegments, noSegments}
-use Rattle.daybook_pieces.specs.Played.{Standing, played}
+use Rattle.daybook_pieces.specs.Played.{DayBook, played}
 use Rattle.daybook_replay.specs.declared.Day.{Day}
 use Rattle.daybook_replay.specs.declared.Stop.{Stop}
 use Rattle.daybook_replay.specs.declared.Stop.the-variants.{Never, At}
@@ -23,11 +22,11 @@ use Rattle.daybook_replay.specs.declared.Stop.the-variants.{Never, At}
 abbrev pub dayLimit : ℕ
 dayLimit = 512
 
--- a fresh book has any words in its memory: here zeros, which no rule looks at before a snapshot
+-- a fresh book has any words in its memory, since rules look at those of rows in use alone: here zeros
 unfoldable pub freshRows : List ℕ
 freshRows = replicate (rowWords * dayLimit) 0
 
-abbrev pub freshDay : ProductId → Standing
+abbrev pub freshDay : ProductId → DayBook
 freshDay product =
     record {
       book = newBook product (limitedRules dayLimit dayLimit) 0;
@@ -39,15 +38,11 @@ freshDay product =
 abbrev pub goesOn : ℕ → Bool
 goesOn n = (eqb n 0 || eqb n changed) || (leb 10 n && leb n 17)
 
-abbrev pub endedBy : Standing → Stop → Day
+abbrev pub endedBy : DayBook → Stop → Day
 endedBy s stop = record { book = s .book; segments = s .segments; stop = stop }
 
--- the last record is put back as the code holds it, apart from the list
-abbrev pub endedWith : BookReconstructor → List Segment → Segment → Stop → Day
-endedWith b sg g stop = record { book = b; segments = set (relast sg (b .segments) g) daySegments noSegment; stop = stop }
-
 -- "Snapshots and messages go in file order", the next piece being the kth, from 1; "piece (from 1) and number if another refusal stopped it"
-unfoldable pub replayed : Standing → ℕ → List (List ℕ) → Day
+unfoldable pub replayed : DayBook → ℕ → List (List ℕ) → Day
 replayed s k [] = endedBy s Never
 replayed s k (p ∷ ps) =
     cond (goesOn (played s p .number)) (replayed (played s p .after) (k + 1) ps) (endedBy (played s p .after) (At k (played s p .number)))

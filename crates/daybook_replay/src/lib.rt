@@ -1,4 +1,4 @@
-// The replay of a day file that keeps its rules: its pieces in file order on a fresh book, up to one that stops it. 1, 2 and 3 hold of no state on the way.
+// The replay of a day file that keeps its rules: its pieces in file order on a fresh book, up to one that stops it. 1, 2 and 3 turn away no state on the way.
 use book_index_upkeep::bounds_of;
 use daybook_file::first_product;
 use daybook_file::piece_count;
@@ -17,13 +17,14 @@ ghost use Prim.Native.Nat.{_≤_};
 ghost use lib.ListN.{length};
 ghost use Rattle.daybook_file.specs.DayFile.{dayShaped};
 ghost use Rattle.daybook_segments.specs.DaySegments.{daySegments};
-ghost use Rattle.daybook_replay.specs.Replay.{freshRows, goesOn, endedWith, dayOf};
+ghost use Rattle.daybook_replay.specs.Replay.{freshRows, goesOn, dayOf};
+ghost use Rattle.daybook_replay.specs.ByValue.{endedWith};
 
 // The limits of a day's book.
 const DAY_LIMIT: usize = 512;
 
 // The words of its rows: 8 an order.
-const ROW_WORDS: usize = 4096;
+const DAY_ROW_WORDS: usize = 4096;
 
 // In so many places of the index most ids that do not rest find no mark.
 const PLACES: usize = 4096;
@@ -114,7 +115,7 @@ pub fn replay_day(file: &[u8]) -> Day
     ensures replays { λ r. ⌜ r ≡ dayOf (now (file .entry)) ⌝ }
     ensures few { λ r. ⌜ r .book .segments ≤ daySegments ⌝ }
 {
-    let mut rows = [0u64; ROW_WORDS];
+    let mut rows = [0u64; DAY_ROW_WORDS];
     let mut places = [0u16; PLACES];
     replay_pieces(file, &mut rows, &mut places)
 }

@@ -1,11 +1,12 @@
-// The library as Rust and C call it: functions on numbers and slices, each answering a number: of 01's table, or 0 for success (of a replay the length of its listing), 256 for a message that changed the book and
-// where there is nothing to tell, 512 for a message that a step dropped, 768 (below); `pinuglaw_rows_broken` answers yes or no. A slice is lent as a pointer and a length; what one call is lent does not overlap.
+// The library as Rust and C call it: functions on numbers and slices, each answering a number: of 01's table, or 0 for success, 256 for a message that changed the book and
+// where there is nothing to tell, 512 for a message that a step dropped, 768 (below). `pinuglaw_rows_broken` answers yes or no, and every number of `pinuglaw_replay` but 7
+// is a length. A slice is lent as a pointer and a length; what one call is lent does not overlap.
 // Before the rules, a call that reads a state answers 768 where an input of fixed size is lent too short (27 words of state, 21 of a message, 4 of a handshake, 8 of an
 // estimate), 4 where words are those of no message, handshake, estimate or side, and 3, after 1 and 2, where the state is that of no book; it then touches nothing
 // (crate `host_boundary`). An output that is too small is 7, said last.
 use book_valid::rows_broken;
 ghost use mathlib.Core.Path.{_≡_};
-ghost use Prim.Native.Nat.{_≤_};
+ghost use Prim.Native.Nat.{_≤_, _<_};
 ghost use lib.ListN.{length};
 ghost use Rattle.piece.specs.Piece.{readMessage, readSnapshot, orderAt};
 ghost use Rattle.book.specs.Broken.{wordsBroken};
@@ -156,11 +157,12 @@ pub extern "C" fn pinuglaw_apply_all(
 }
 
 // Replays the day file in `file` on a book of its own, and writes the listing of its segments at the front of `listing`. Answers the listing's length, which is
-// at most 8,192 and never 7; or 7, and touches nothing, where the slice is shorter. A file that breaks the format's rules is listed as 60.
+// at most 8,192 and never 7; or 7, and touches nothing, where the slice is shorter. A file that breaks the format's rules or is longer than 65,536 bytes is listed as 60.
 #[no_mangle]
 pub extern "C" fn pinuglaw_replay(file: &[u8], listing: &mut [u8]) -> u64
     ensures { λ r. ⌜ replayCalled r (now (listing .exit)) ≡ replayCall (now (file .entry)) (now (listing .entry)) ⌝ }
     ensures bounded { λ _. ⌜ length (Listing·listing (now (file .entry))) ≤ listingBytes ⌝ }
+    ensures told { λ _. ⌜ 7 < length (Listing·listing (now (file .entry))) ⌝ }
 {
     daybook::replay(file, listing)
 }

@@ -11,7 +11,8 @@ use borrow.Author.Tests.{ltb-true, ltb-false, lt-ltb, le-ltb}
 use lib.Dec.{ltb}
 use lib.ListN.{length, getD, take, drop, set, length-append, length-drop, length-set}
 use lib.Seq.{take-all, drop-cons, drop-set-lt, getD-set-same}
-use Rattle.text.specs.Decimal.{digit, decimalIn, decimal, mostDigits, numberFrom, AllDigits, IsDecimal}
+use Rattle.text.specs.Decimal.{digit, decimalIn, decimal, mostDigits}
+use Rattle.text.specs.Digits.{numberFrom, AllDigits, IsDecimal}
 
 -- ---- by tens
 
