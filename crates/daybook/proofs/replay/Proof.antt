@@ -8,7 +8,7 @@ use Rattle.daybook.proofs.replay.Tie as tie
 returns : tie.Need-returns
 returns c =
     let k-start = c .before .before .before .before .before .before in
-    (call-short (k-start .args .file .now) _ _ (c .before .before .list .result) (c .before .before .list .ensures .0) (c .before .before .list .ensures .1) (k-start .args .listing .now) (c .if1 .taken), few (k-start .args .file .now) _ _ (c .before .before .list .result) (c .before .before .list .ensures .0) (c .before .before .list .ensures .1), omega (arith, listing-long (k-start .args .file .now)))
+    (call-short (k-start .args .file .now) _ _ (c .before .before .list .result) (c .before .before .list .ensures .0) (c .before .before .list .ensures .1) (k-start .args .listing .now) (c .if1 .taken), (few (k-start .args .file .now) _ _ (c .before .before .list .result) (c .before .before .list .ensures .0) (c .before .before .list .ensures .1), omega (arith, listing-long (k-start .args .file .now))))
 
 slice-aggregate-put-bytes : tie.Need-slice-aggregate-put-bytes
 slice-aggregate-put-bytes c =
@@ -27,7 +27,7 @@ returns-2 c =
     let k-if1 = c .before .before .before .before .before in
     let k-list = k-if1 .before .before in
     let k-start = k-list .before .before .before .before in
-    (call-fits (k-start .args .file .now) _ _ (k-list .list .result) (k-list .list .ensures .0) (k-list .list .ensures .1) (k-start .args .listing .now) _ _ (k-if1 .if1 .left) (rw (staged (k-start .args .file .now) _ _ (k-list .list .result) (k-list .list .ensures .0) (k-list .list .ensures .1) (search needs)) at (c .before .before .put-bytes .ensures)), few (k-start .args .file .now) _ _ (k-list .list .result) (k-list .list .ensures .0) (k-list .list .ensures .1), omega (arith, listing-long (k-start .args .file .now)))
+    (call-fits (k-start .args .file .now) _ _ (k-list .list .result) (k-list .list .ensures .0) (k-list .list .ensures .1) (k-start .args .listing .now) _ _ (k-if1 .if1 .left) (rw (staged (k-start .args .file .now) _ _ (k-list .list .result) (k-list .list .ensures .0) (k-list .list .ensures .1) (search needs)) at (c .before .before .put-bytes .ensures)), (few (k-start .args .file .now) _ _ (k-list .list .result) (k-list .list .ensures .0) (k-list .list .ensures .1), omega (arith, listing-long (k-start .args .file .now))))
 
 pub replay-spec : {M : Type 1} → statement M
 replay-spec =
