@@ -15,9 +15,9 @@ use Rattle.text.proofs.Decimals.{decimal-some}
 use Rattle.reconstructor_counts.specs.declared.MessageCounts.{MessageCounts}
 use Rattle.reconstructor_counts.specs.Counts.{noCounts}
 use Rattle.daybook_file.specs.DayFile.{dayShaped}
-use Rattle.daybook_replay.specs.declared.Day.{Day}
-use Rattle.daybook_replay.specs.declared.Stop.{Stop}
-use Rattle.daybook_replay.specs.declared.Stop.the-variants.{At}
+use Rattle.daybook_segments.specs.declared.Day.{Day}
+use Rattle.daybook_segments.specs.declared.Stop.{Stop}
+use Rattle.daybook_segments.specs.declared.Stop.the-variants.{At}
 use Rattle.daybook_replay.specs.Replay.{dayOf}
 use Rattle.daybook_lines.specs.Listed.{countsIn, countsWord, countsLine, stopLine, ending, segmentLines, listed}
 use Rattle.daybook.specs.Listing.{notADayFile, listing, ReplayCall, replayCalled, replayCall}

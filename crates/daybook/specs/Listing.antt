@@ -6,7 +6,7 @@ use lib.Dec.{ltb}
 use lib.ListN.{length, drop}
 use Rattle.reconstructor_counts.specs.Counts.{noCounts}
 use Rattle.daybook_file.specs.DayFile.{dayShaped}
-use Rattle.daybook_replay.specs.declared.Stop.the-variants.{At}
+use Rattle.daybook_segments.specs.declared.Stop.the-variants.{At}
 use Rattle.daybook_replay.specs.Replay.{dayOf}
 use Rattle.daybook_lines.specs.Listed.{ending, listed}
 

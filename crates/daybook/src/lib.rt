@@ -2,8 +2,8 @@
 use daybook_file::day_shaped;
 use daybook_lines::put_day;
 use daybook_lines::put_ending;
-use daybook_replay::Stop;
 use daybook_replay::replay_day;
+use daybook_segments::Stop;
 use reconstructor_counts::MessageCounts;
 use text::put_bytes;
 ghost use mathlib.Core.Path.{_≡_};

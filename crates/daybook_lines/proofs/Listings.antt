@@ -15,8 +15,8 @@ use Rattle.text.proofs.Texts.{writes-then, writes-word, rest-next}
 use Rattle.reconstructor_counts.specs.declared.MessageCounts.{MessageCounts}
 use Rattle.reconstructor_segments.specs.declared.Segment.{Segment}
 use Rattle.reconstructor_segments.specs.Segments.{noSegment, elapsed}
-use Rattle.daybook_replay.specs.declared.Stop.{Stop}
-use Rattle.daybook_replay.specs.declared.Stop.the-variants.{At}
+use Rattle.daybook_segments.specs.declared.Stop.{Stop}
+use Rattle.daybook_segments.specs.declared.Stop.the-variants.{At}
 use Rattle.daybook_lines.specs.Most.{mostSegment}
 use Rattle.daybook_lines.specs.Listed.{segmentWord, countsWord, stopWord, endWord, segmentLine, segmentLines, countsIn, countsLine, stopLine, ending}
 

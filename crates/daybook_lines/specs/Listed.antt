@@ -9,9 +9,9 @@ use Rattle.text.specs.Lines.{line}
 use Rattle.reconstructor_counts.specs.declared.MessageCounts.{MessageCounts}
 use Rattle.reconstructor_segments.specs.declared.Segment.{Segment}
 use Rattle.reconstructor_segments.specs.Segments.{elapsed}
-use Rattle.daybook_replay.specs.declared.Day.{Day}
-use Rattle.daybook_replay.specs.declared.Stop.{Stop}
-use Rattle.daybook_replay.specs.declared.Stop.the-variants.{Never, At}
+use Rattle.daybook_segments.specs.declared.Day.{Day}
+use Rattle.daybook_segments.specs.declared.Stop.{Stop}
+use Rattle.daybook_segments.specs.declared.Stop.the-variants.{Never, At}
 
 -- ---- the words, in ASCII
 

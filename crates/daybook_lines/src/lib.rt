@@ -1,7 +1,7 @@
 // The lines of a day's listing, written into a text.
-use daybook_replay::Day;
-use daybook_replay::Stop;
 use daybook_segments::DAY_SEGMENTS;
+use daybook_segments::Day;
+use daybook_segments::Stop;
 use reconstructor_counts::MessageCounts;
 use reconstructor_segments::Segment;
 use text::put_bytes;

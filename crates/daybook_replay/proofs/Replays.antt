@@ -29,8 +29,8 @@ use Rattle.daybook_pieces.specs.ByValue.{turned, playedTo, Plays}
 use Rattle.daybook_pieces.proofs.Pieces.{Starts, stays, begins, piece-starts, putBack, played-put}
 use Rattle.daybook_file.specs.DayFile.{pieceCount, piecesFrom, pieceAt, piecesOf, productOf}
 use Rattle.daybook_file.proofs.Days.{pieces-next, pieces-none}
-use Rattle.daybook_replay.specs.declared.Stop.{Stop}
-use Rattle.daybook_replay.specs.declared.Stop.the-variants.{Never, At}
+use Rattle.daybook_segments.specs.declared.Stop.{Stop}
+use Rattle.daybook_segments.specs.declared.Stop.the-variants.{Never, At}
 use Rattle.daybook_replay.specs.Replay.{dayLimit, freshRows, freshDay, goesOn, endedBy, replayed, dayOf}
 use Rattle.daybook_replay.specs.ByValue.{endedWith}
 

@@ -56,8 +56,8 @@ use Rattle.daybook_segments.specs.DaySegments.{daySegments}
 use Rattle.daybook_pieces.specs.Played.{DayBook, isSnapshot, played}
 use Rattle.daybook_pieces.specs.ByValue.{PlayedTo, byBootstrapTo, playMessageTo, playedTo}
 use Rattle.daybook_pieces.proofs.Pieces.{snapshot-usable, putBack, played-put}
-use Rattle.daybook_replay.specs.declared.Stop.{Stop}
-use Rattle.daybook_replay.specs.declared.Stop.the-variants.{Never, At}
+use Rattle.daybook_segments.specs.declared.Stop.{Stop}
+use Rattle.daybook_segments.specs.declared.Stop.the-variants.{Never, At}
 use Rattle.daybook_replay.specs.Replay.{freshDay, goesOn, endedBy, replayed, dayOf}
 use Rattle.daybook_replay.proofs.Replays.{fresh-usable, length-none}
 

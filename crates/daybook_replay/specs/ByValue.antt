@@ -6,8 +6,8 @@ use Rattle.reconstructor_segments.specs.declared.Segment.{Segment}
 use Rattle.reconstructor_segments.specs.Segments.{noSegment, relast}
 use Rattle.reconstructor_state.specs.declared.BookReconstructor.{BookReconstructor}
 use Rattle.daybook_segments.specs.DaySegments.{daySegments}
-use Rattle.daybook_replay.specs.declared.Day.{Day}
-use Rattle.daybook_replay.specs.declared.Stop.{Stop}
+use Rattle.daybook_segments.specs.declared.Day.{Day}
+use Rattle.daybook_segments.specs.declared.Stop.{Stop}
 
 -- the last record is put back, and none is started: past the list's end nothing is written
 abbrev pub endedWith : BookReconstructor → List Segment → Segment → Stop → Day

@@ -14,9 +14,9 @@ use Rattle.reconstructor_state.specs.State.{limitedRules, newBook}
 use Rattle.daybook_file.specs.DayFile.{piecesOf, productOf}
 use Rattle.daybook_segments.specs.DaySegments.{daySegments, noSegments}
 use Rattle.daybook_pieces.specs.Played.{DayBook, played}
-use Rattle.daybook_replay.specs.declared.Day.{Day}
-use Rattle.daybook_replay.specs.declared.Stop.{Stop}
-use Rattle.daybook_replay.specs.declared.Stop.the-variants.{Never, At}
+use Rattle.daybook_segments.specs.declared.Day.{Day}
+use Rattle.daybook_segments.specs.declared.Stop.{Stop}
+use Rattle.daybook_segments.specs.declared.Stop.the-variants.{Never, At}
 
 -- 02, paper 1: "with limits 512 and 512, at most 64 segments, and the first piece's product"
 abbrev pub dayLimit : ℕ

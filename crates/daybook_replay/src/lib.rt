@@ -6,6 +6,8 @@ use daybook_file::piece_end;
 use daybook_file::piece_start;
 use daybook_pieces::play;
 use daybook_segments::DAY_SEGMENTS;
+use daybook_segments::Day;
+use daybook_segments::Stop;
 use daybook_segments::filed;
 use daybook_segments::no_segments;
 use reconstructor_segments::Segment;
@@ -28,19 +30,6 @@ const DAY_ROW_WORDS: usize = 4096;
 
 // In so many places of the index most ids that do not rest find no mark.
 const PLACES: usize = 4096;
-
-// Where a replay was stopped: the piece, counted from 1, and the number that it was turned away by.
-pub enum Stop {
-    Never,
-    At { piece: usize, number: u64 },
-}
-
-// What a replay leaves.
-pub struct Day {
-    pub book: BookReconstructor,
-    pub segments: [Segment; DAY_SEGMENTS],
-    pub stop: Stop,
-}
 
 // Whether a number does not stop it: of what is accepted, or of a refusal from 10 to 17.
 fn goes_on(number: u64) -> bool

@@ -1,7 +1,8 @@
-// A day's segment list: an array of records, lent as a slice to the functions on a list of them.
+// A day's segment list, an array of records, lent as a slice to the functions on a list of them; and what a day's replay leaves.
 use reconstructor_segments::Segment;
 use reconstructor_segments_list::append_segment;
 use reconstructor_segments_list::rewrite_last;
+use reconstructor_state::BookReconstructor;
 ghost use mathlib.Core.Path.{_≡_};
 ghost use lib.ListN.{set};
 ghost use Rattle.reconstructor_segments.specs.Segments.{relast};
@@ -9,6 +10,19 @@ ghost use Rattle.daybook_segments.specs.DaySegments.{noSegments};
 
 // "at most 64 segments".
 pub const DAY_SEGMENTS: usize = 64;
+
+// Where a replay was stopped: the piece, counted from 1, and the number that it was turned away by.
+pub enum Stop {
+    Never,
+    At { piece: usize, number: u64 },
+}
+
+// What a replay leaves.
+pub struct Day {
+    pub book: BookReconstructor,
+    pub segments: [Segment; DAY_SEGMENTS],
+    pub stop: Stop,
+}
 
 pub fn no_segments() -> [Segment; DAY_SEGMENTS]
     ensures { λ r. ⌜ r ≡ noSegments ⌝ }
