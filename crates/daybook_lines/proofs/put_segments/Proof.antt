@@ -1,3 +1,4 @@
+-- The loop keeps the lines of the first `i` records written, from the text's start on, in no more room than as many of the longest take (`Written`).
 use mathlib.Core.Path.{_≡_, refl, _∙_}
 use lib.Seq.{length-take-le, getD-take}
 use Rattle.reconstructor_segments.specs.Segments.{noSegment}

@@ -1,3 +1,4 @@
+-- The loop keeps that what is read fits the buffer: a read gets the part behind it, and moves at most that. It ends, since turns are counted down.
 use Rattle.daybook_main.proofs.Parts.{length-part}
 use Prim.Native.Nat.{_≤_}
 use mathlib.Core.Path.{_≡_, refl, _∙_}
@@ -25,9 +26,6 @@ returns c = counts _ _ (omega (arith, c .before .before .loop .inv .0))
 
 sub-read-some : tie.Need-sub-read-some Inv-loop μ-loop
 sub-read-some c = c .before .before .loop .inv .0
-
-read-some-requires : tie.Need-read-some-requires Inv-loop μ-loop
-read-some-requires c κs = tt
 
 same-length-2 : tie.Need-same-length-2 Inv-loop μ-loop
 same-length-2 c =
@@ -80,7 +78,7 @@ read-input-spec =
     sub-read-some
     (λ c. search needs)
     (λ c. search needs)
-    read-some-requires
+    (λ c κs. search needs)
     same-length-2
     returns-2
     add-done

@@ -1,3 +1,4 @@
+-- The loop keeps that what is written is of the text: a write gets the part behind it, and moves at most that. It ends, since turns are counted down.
 use Rattle.daybook_main.proofs.Parts.{length-part}
 use Prim.Native.Nat.{_≤_}
 use lib.ListN.{length}
@@ -15,17 +16,8 @@ abbrev μ-loop : tie.MeasureT-loop
 loop-holds : tie.Need-loop-holds Inv-loop μ-loop
 loop-holds c = omega arith
 
-returns : tie.Need-returns Inv-loop μ-loop
-returns c = tt
-
 sub-write-some : tie.Need-sub-write-some Inv-loop μ-loop
 sub-write-some c = c .before .before .loop .inv
-
-write-some-requires : tie.Need-write-some-requires Inv-loop μ-loop
-write-some-requires c κs = tt
-
-returns-2 : tie.Need-returns-2 Inv-loop μ-loop
-returns-2 c = tt
 
 add-done : tie.Need-add-done Inv-loop μ-loop
 add-done c =
@@ -49,9 +41,6 @@ loop-again c =
     let k-start = k-loop .before .before in
     omega (arith, c .before .before .write-some .ensures, length-part (k-start .args .text .now) (k-loop .loop .done), k-loop .loop .inv)
 
-returns-3 : tie.Need-returns-3 Inv-loop μ-loop
-returns-3 c = tt
-
 pub write-output-spec : {M : Type 1} → statement M
 write-output-spec =
     tie.close
@@ -59,14 +48,14 @@ write-output-spec =
     Inv-loop
     μ-loop
     loop-holds
-    returns
+    (λ c. tt)
     sub-write-some
     (λ c. search needs)
     (λ c. search needs)
-    write-some-requires
-    returns-2
+    (λ c κs. search needs)
+    (λ c. tt)
     add-done
     sub-turns
     loop-less
     loop-again
-    returns-3)
+    (λ c. tt))

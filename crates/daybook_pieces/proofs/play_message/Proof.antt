@@ -1,3 +1,5 @@
+-- Bytes that are no message are 4 or 5 and touch nothing. A message's turn goes by `apply_in_run`, since the state passes 1, 2 and 3 and has an index, and
+-- leaves both for the next piece (`message-plays`).
 use mathlib.Core.Path.{refl, sym, _∙_}
 use native.Mathlib.Omega.{arith}
 use Rattle.book.specs.Memory.{memory}

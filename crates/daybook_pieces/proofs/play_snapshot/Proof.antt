@@ -1,3 +1,5 @@
+-- Bytes that are no snapshot are 4 or 5 and touch nothing. A snapshot's turn goes by `bootstrap_usable`; where it is taken the rows are others and the index
+-- is made anew (`index_after`), where it is refused they are as they were and so is the index (`after-marks`).
 use mathlib.Core.Path.{sym, _∙_}
 use native.Mathlib.Omega.{arith}
 use Rattle.book.specs.Memory.{memory}

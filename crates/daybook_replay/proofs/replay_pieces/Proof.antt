@@ -1,3 +1,5 @@
+-- The loop keeps that what the file comes to is the replay of the pieces left, from piece `i` on, on the book as it is now, its last record apart from the list
+-- (`Loops`). A turn plays one piece (`after`) and files the record that it starts (`Keeps`); it stops the day (`loop-stops`) or goes on (`loop-next`).
 use Rattle.daybook_replay.proofs.Replays.{listed-few, Keeps, filed, apart, after, loop-start, loop-ends, loop-stops, loop-next}
 use native.Mathlib.Omega.{arith}
 use mathlib.Core.Path.{sym, _∙_}
@@ -23,25 +25,13 @@ piece-count-requires c κs =
     let k-start = c .before .before .before in
     k-start .pre .0
 
-with-limits-requires : tie.Need-with-limits-requires Inv-loop μ-loop
-with-limits-requires c κs = tt
-
 first-product-requires : tie.Need-first-product-requires Inv-loop μ-loop
 first-product-requires c κs =
     let k-start = c .before .before .before .before .before in
     k-start .pre .0
 
-new-requires : tie.Need-new-requires Inv-loop μ-loop
-new-requires c κs = tt
-
 bounds-of-requires : tie.Need-bounds-of-requires Inv-loop μ-loop
 bounds-of-requires c κs = record { room = omega arith; few = omega arith }
-
-none-requires : tie.Need-none-requires Inv-loop μ-loop
-none-requires c κs = tt
-
-no-segments-requires : tie.Need-no-segments-requires Inv-loop μ-loop
-no-segments-requires c κs = tt
 
 loop-holds : tie.Need-loop-holds Inv-loop μ-loop
 loop-holds c =
@@ -84,20 +74,11 @@ play-requires c κs =
     let k-loop = c .before .before .before .before .before .before in
     k-loop .loop .inv .plays
 
-filed-requires : tie.Need-filed-requires Inv-loop μ-loop
-filed-requires c κs = tt
-
-goes-on-requires : tie.Need-goes-on-requires Inv-loop μ-loop
-goes-on-requires c κs = tt
-
 add-t31 : tie.Need-add-t31 Inv-loop μ-loop
 add-t31 c =
     let k-loop = c .before .before .before .before .before .before .before .before .before .before .before .before .before .before .before .before .before in
     let k-start = k-loop .before .before .before .before .before .before .before .before .before .before .before .before in
     omega (arith, k-loop .loop .inv .few, pairs-inside (k-start .args .file .now) (k-start .pre .0), few-bytes (k-start .args .file .now) (k-start .pre .0))
-
-ended-requires : tie.Need-ended-requires Inv-loop μ-loop
-ended-requires c κs = tt
 
 same-length : tie.Need-same-length Inv-loop μ-loop
 same-length c =
@@ -160,9 +141,6 @@ loop-again c =
     let a = after (l .book) (l .rows) _ (l .places) (pieceAt f (l .i)) (l .bounds) (l .segments) (k-if1 .if1 .segments) (l .last) (k-if1 .if1 .last) (t .result) (l .inv .plays) (l .inv .full) (l .inv .none) e k in
     loop-next f _ _ (l .rows) (l .places) (l .book) (l .bounds) (l .last) (l .segments) (l .i) (l .inv) _ _ (t .result) (k-if1 .if1 .segments) (k-if1 .if1 .last) h a (sym (c .before .goes-on .ensures) ∙ not-false (c .before .goes-on .result) (c .if2 .left)) (t .ensures .1) (t .kept .1 .0) (t .kept .1 .1 .0)
 
-ended-requires-2 : tie.Need-ended-requires-2 Inv-loop μ-loop
-ended-requires-2 c κs = tt
-
 same-length-3 : tie.Need-same-length-3 Inv-loop μ-loop
 same-length-3 c = c .before .before .loop .inv .rows
 
@@ -183,12 +161,12 @@ replay-pieces-spec =
     Inv-loop
     μ-loop
     piece-count-requires
-    with-limits-requires
+    (λ c κs. search needs)
     first-product-requires
-    new-requires
+    (λ c κs. search needs)
     bounds-of-requires
-    none-requires
-    no-segments-requires
+    (λ c κs. search needs)
+    (λ c κs. search needs)
     loop-holds
     piece-start-requires
     piece-end-requires
@@ -196,17 +174,17 @@ replay-pieces-spec =
     (λ c. search needs)
     part-play-end
     play-requires
-    filed-requires
-    goes-on-requires
+    (λ c κs. search needs)
+    (λ c κs. search needs)
     add-t31
-    ended-requires
+    (λ c κs. search needs)
     same-length
     same-length-2
     returns
     add-i
     loop-less
     loop-again
-    ended-requires-2
+    (λ c κs. search needs)
     same-length-3
     same-length-4
     returns-2)

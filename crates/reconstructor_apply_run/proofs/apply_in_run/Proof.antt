@@ -1,3 +1,4 @@
+-- What is foreseen of the message tells the index beforehand, so that `apply_indexed` may go by it; what the message did is noted in it afterwards.
 use native.Mathlib.Omega.{arith}
 use Rattle.book.specs.Rows.{mostRows}
 use Rattle.book.specs.Memory.{memory}
