@@ -337,7 +337,8 @@ uint64_t pinuglaw_snapshot_order(const uint8_t *bytes, size_t bytes_len, size_t 
  * Replays a day file on a book of its own, and writes the listing of its segments at the front of `listing`, as lines of ASCII. Answers the listing's length,
  * never 7 and at most PINUGLAW_LISTING_BYTES; or 7, and nothing is written, where the slice is shorter. Any bytes have a listing: those that are no day file,
  * a zero count of everything and `stop 0 60`. A day file (integers little-endian): a count of 4 bytes, as many pairs of offset and length, 4 bytes each, and
- * the pieces, snapshots and messages in their order. Offsets count from the first byte and rise; no piece reaches past the next one's offset or the end.
+ * the pieces, snapshots and messages in their order, in PINUGLAW_DAY_FILE_BYTES at most. Offsets count from the first byte and rise strictly; the first piece
+ * starts behind the pairs, and none reaches past the next one's offset or the file's end.
  */
 uint64_t pinuglaw_replay(const uint8_t *file, size_t file_len, uint8_t *listing, size_t listing_len);
 

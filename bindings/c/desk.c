@@ -679,10 +679,10 @@ static struct piece day_of_e(void)
     const struct piece pieces[PIECES] = {snapshot_of_e(100), open_piece(101, C, 10, 5), match_piece(102, A, 2), match_piece(102, A, 2)};
     struct piece day = {.length = 0};
     size_t offset = COUNT_BYTES + PAIR_BYTES * PIECES;
-    put_little(&day, PIECES, 4);
+    put_little(&day, PIECES, COUNT_BYTES);
     for (size_t i = 0; i < PIECES; i++) {
-        put_little(&day, offset, 4);
-        put_little(&day, pieces[i].length, 4);
+        put_little(&day, offset, PAIR_BYTES / 2);
+        put_little(&day, pieces[i].length, PAIR_BYTES / 2);
         offset += pieces[i].length;
     }
     for (size_t i = 0; i < PIECES; i++)

@@ -11,10 +11,12 @@ ghost use Rattle.daybook_file.specs.DayFile.{pieceCount, pairAt, offsetO
 // The most bytes of a day file.
 pub const DAY_BYTES: usize = 65536;
 
-// Bytes of the count in front, and of a pair.
+// Bytes of the count in front, of a pair, and of a pair's offset.
 const COUNT_BYTES: usize = 4;
 
 const PAIR_BYTES: usize = 8;
+
+const OFFSET_BYTES: usize = 4;
 
 // Bytes of a piece that has a product: its kind and the product.
 const PRODUCT_BYTES: usize = 17;
@@ -32,7 +34,7 @@ pub fn piece_end(file: &[u8], i: usize) -> usize
     requires { ⌜ (pairAt (i + 1) ≤ length (now file)) ⌝ }
     ensures { λ r. ⌜ r ≡ endOf (now (file .entry)) i ⌝ }
 {
-    piece_start(file, i) + read_le32(file, COUNT_BYTES + PAIR_BYTES * i + 4) as usize
+    piece_start(file, i) + read_le32(file, COUNT_BYTES + PAIR_BYTES * i + OFFSET_BYTES) as usize
 }
 
 // Whether piece `i` ends by the next one's offset, which is above its own.

@@ -23,11 +23,13 @@ fn put_end(text: &mut [u8], at: usize, end: u64) -> usize
     ensures { λ r. ⌜ Writes (now (text .entry)) at (space ∷ endWord end) (now (text .exit)) r ⌝ }
     ensures short { λ r. ⌜ r ≤ at + mostSpaced ⌝ }
 {
-    match end {
-        0 => put_bytes(text, at, b" open"),
-        1 => put_bytes(text, at, b" superseded"),
-        _ => put_number(text, at, end),
+    if end == Segment::OPEN {
+        return put_bytes(text, at, b" open");
     }
+    if end == Segment::SUPERSEDED {
+        return put_bytes(text, at, b" superseded");
+    }
+    put_number(text, at, end)
 }
 
 // A segment's line.

@@ -42,6 +42,7 @@ fn read_input(file: &mut [u8]) -> usize
     ensures { λ r. ⌜ Counts r (now (file .exit)) ⌝ }
 {
     let mut done: usize = 0;
+    // Signals may interrupt without end, and a loop must be shown to end.
     let mut turns = u64::MAX;
     while 0 < turns {
         if done == file.len() {

@@ -1,17 +1,15 @@
 -- What can stop a replay: 4, 5 and 6 alone. 1, 2 and 3 hold of no state on the way, and every other refusal goes on.
 -- Assumes nothing.
 use Prim.Native.Nat.{ℕ, _+_}
-use mathlib.Core.Path.{_≡_, refl, sym, ap, subst, _∙_}
+use mathlib.Core.Path.{_≡_, refl, _∙_}
 use mathlib.Core.Bool.{Bool, true, false, not, cond}
 use mathlib.Core.List.{List, [], _∷_}
 use mathlib.Core.Logic.{_⊎_, inl, inr}
 use mathlib.Core.Option.{Option, none, some}
-use native.Mathlib.Omega.{arith}
 use lib.Dec.{eqb}
 use lib.ListN.{length, length-set}
 use Rattle.laws.proofs.Bools.{absurd-bool}
 use Rattle.message.specs.declared.L3Message.{L3Message}
-use Rattle.message.specs.declared.L3Snapshot.{L3Snapshot}
 use Rattle.message.specs.Same.{sameProduct}
 use Rattle.message.specs.Values.{eventInRange}
 use Rattle.piece.specs.declared.PieceError.{PieceError}
@@ -49,7 +47,7 @@ use Rattle.reconstructor_bootstrap.specs.declared.SnapshotAnswer.the-variants a
 use Rattle.reconstructor_bootstrap.specs.declared.SnapshotError.{SnapshotError}
 use Rattle.reconstructor_bootstrap.specs.declared.SnapshotError.the-variants as errors
 use Rattle.reconstructor_bootstrap.specs.Numbers.{snapshotNumber}
-use Rattle.reconstructor_bootstrap.specs.Snapshot.{snapshotLine, snapshotRefusal, pieceAnswer, acceptRefusal, pieceRefusal, bootRefusal}
+use Rattle.reconstructor_bootstrap.specs.Snapshot.{snapshotLine, snapshotRefusal, acceptRefusal, pieceRefusal, bootRefusal}
 use Rattle.reconstructor_bootstrap.specs.Bootstrap.{unlessRefused, taken, bootstrappedTo}
 use Rattle.daybook_file.specs.DayFile.{piecesOf, productOf}
 use Rattle.daybook_segments.specs.DaySegments.{daySegments}

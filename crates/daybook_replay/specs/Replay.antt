@@ -8,11 +8,9 @@ use Rattle.message.specs.declared.ProductId.{ProductId}
 use Rattle.message.specs.Told.{changed}
 use Rattle.book.specs.Rows.{rowWords}
 use Rattle.book.specs.Memory.{memory}
-use Rattle.reconstructor_segments.specs.declared.Segment.{Segment}
-use Rattle.reconstructor_state.specs.declared.BookReconstructor.{BookReconstructor}
 use Rattle.reconstructor_state.specs.State.{limitedRules, newBook}
 use Rattle.daybook_file.specs.DayFile.{piecesOf, productOf}
-use Rattle.daybook_segments.specs.DaySegments.{daySegments, noSegments}
+use Rattle.daybook_segments.specs.DaySegments.{noSegments}
 use Rattle.daybook_pieces.specs.Played.{DayBook, played}
 use Rattle.daybook_segments.specs.declared.Day.{Day}
 use Rattle.daybook_segments.specs.declared.Stop.{Stop}

@@ -15,6 +15,8 @@ pub use sys::BOOK_CHANGED as CHANGED;
 pub use sys::DROPPED;
 /// The words of a book's state, and of a handshake; the word of a state that counts the rows.
 pub use sys::HANDSHAKE_WORDS;
+/// No listing is longer.
+pub use sys::LISTING_BYTES;
 /// The answer where a state, message, handshake or estimate is lent too short.
 pub use sys::SHORT_INPUT;
 pub use sys::STATE_ROWS;

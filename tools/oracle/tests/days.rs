@@ -31,7 +31,7 @@ fn planted_faults_are_found() {
 fn a_call_leaves_nothing_behind() {
     let files: Vec<Vec<u8>> = oracle::daybook::generate::Days::new(62).take(200).collect();
     let listing = |file: &Vec<u8>| {
-        let mut slice = vec![0; 10_000];
+        let mut slice = vec![0; port::LISTING_BYTES];
         let length = port::replay(file, &mut slice) as usize;
         slice.truncate(length);
         slice

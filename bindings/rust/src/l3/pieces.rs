@@ -121,14 +121,19 @@ impl Piece {
                 self.side(*side);
                 self.0.push(u8::from(*reason == ChangeReason::ModifyOrder));
                 let amounts = [price, old_size, new_size, old_price, new_price, new_funds];
-                self.0.push(present(amounts.map(|amount| *amount)));
-                for amount in amounts {
-                    self.optional(*amount);
-                }
+                self.all_optional(amounts.map(|amount| *amount));
             }
             _ => unreachable!("called for events with optional amounts"),
         }
         Some(())
+    }
+
+    /// The presence byte, and the amounts that are there.
+    fn all_optional<const N: usize>(&mut self, amounts: [Option<Decimal>; N]) {
+        self.0.push(present(amounts));
+        for amount in amounts {
+            self.optional(amount);
+        }
     }
 }
 

@@ -8,20 +8,20 @@ use Rattle.daybook_lines.proofs.put_end.Tie as tie
 returns : tie.Need-returns
 unfolding endWord
 returns c =
-    let k-match = c .before .before .before .before .before in
-    rw (k-match .match .keys1) (c .before .before .put-bytes .ensures, omega (arith, c .before .before .put-bytes .ensures .ends))
+    let k-if1 = c .before .before .before .before .before in
+    rw (k-if1 .if1 .taken) (c .before .before .put-bytes .ensures, omega (arith, c .before .before .put-bytes .ensures .ends))
 
 returns-2 : tie.Need-returns-2
 unfolding endWord
 returns-2 c =
-    let k-match = c .before .before .before .before .before in
-    rw (k-match .match .keys2) (c .before .before .put-bytes2 .ensures, omega (arith, c .before .before .put-bytes2 .ensures .ends))
+    let k-if2 = c .before .before .before .before .before in
+    rw (k-if2 .if2 .taken) (c .before .before .put-bytes2 .ensures, omega (arith, c .before .before .put-bytes2 .ensures .ends))
 
 returns-3 : tie.Need-returns-3
 unfolding endWord
 returns-3 c =
-    let k-match = c .before .before .before .before in
-    rw (ne-eqb _ _ (k-match .match .rest .0 .1), ne-eqb _ _ (k-match .match .rest .1)) (c .before .before .put-number .ensures .0, c .before .before .put-number .ensures .1)
+    let k-if2 = c .before .before .before .before in
+    rw (ne-eqb _ _ (k-if2 .before .if1 .left), ne-eqb _ _ (k-if2 .if2 .left)) (c .before .before .put-number .ensures .0, c .before .before .put-number .ensures .1)
 
 pub put-end-spec : {M : Type 1} → statement M
 put-end-spec =
@@ -30,11 +30,11 @@ put-end-spec =
     (λ c. search needs)
     (λ c κs. search needs)
     (λ c. search needs)
-    (λ c κs. search needs)
-    (λ c κs. search needs)
-    (λ c. search needs)
     returns
     (λ c. search needs)
+    (λ c κs. search needs)
+    (λ c. search needs)
     returns-2
+    (λ c κs. search needs)
     (λ c. search needs)
     returns-3)

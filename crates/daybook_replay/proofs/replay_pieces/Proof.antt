@@ -1,16 +1,14 @@
 -- The loop keeps that what the file comes to is the replay of the pieces left, from piece `i` on, on the book as it is now, its last record apart from the list
 -- (`Loops`). A turn plays one piece (`after`) and files the record that it starts (`Keeps`); it stops the day (`loop-stops`) or goes on (`loop-next`).
-use Rattle.daybook_replay.proofs.Replays.{listed-few, Keeps, filed, apart, after, loop-start, loop-ends, loop-stops, loop-next}
 use native.Mathlib.Omega.{arith}
 use mathlib.Core.Path.{sym, _∙_}
 use mathlib.Core.Logic.{⊎-elim}
 use borrow.Author.Needs.{needs}
 use borrow.Author.Tests.{not-true, not-false}
-use Rattle.daybook_file.specs.DayFile.{pieceAt}
 use Rattle.daybook_file.proofs.Days.{few-bytes, pairs-inside, piece-inside, piece-cut}
 use Prim.Native.Nat.{_-_}
-use Rattle.daybook_file.specs.DayFile.{pieceCount}
-use Rattle.daybook_replay.proofs.Replays.{Loops}
+use Rattle.daybook_file.specs.DayFile.{pieceCount, pieceAt}
+use Rattle.daybook_replay.proofs.Replays.{listed-few, Keeps, filed, apart, after, Loops, loop-start, loop-ends, loop-stops, loop-next}
 use Rattle.daybook_replay.proofs.replay_pieces.Statement.{statement}
 use Rattle.daybook_replay.proofs.replay_pieces.Tie as tie
 

@@ -3,11 +3,9 @@ use borrow.Author.Needs.{needs}
 use Rattle.daybook_segments.proofs.no_segments.Statement.{statement}
 use Rattle.daybook_segments.proofs.no_segments.Tie as tie
 
--- src/lib.rt:16:9
 none-requires : tie.Need-none-requires
 none-requires c κs = search needs
 
--- src/lib.rt:13:1
 returns : tie.Need-returns
 unfolding noSegments
 returns c = rw (c .none .ensures)

@@ -17,9 +17,6 @@ use crate::piece::{
 use crate::port;
 use crate::rust::convert;
 
-/// More than any listing has.
-const ROOM: usize = 10_000;
-
 /// A piece as the Rust takes it.
 enum Value {
     Snapshot(L3Snapshot),
@@ -101,7 +98,7 @@ impl Day {
     }
 
     fn ours(&self) -> f64 {
-        let (mut slice, wanted) = (vec![0; ROOM], listing(&self.file));
+        let (mut slice, wanted) = (vec![0; port::LISTING_BYTES], listing(&self.file));
         let length = wanted.len() as u64;
         let time = round(|| assert_eq!(port::replay(black_box(&self.file), &mut slice), length));
         assert_eq!(slice[..wanted.len()], wanted);

@@ -143,7 +143,7 @@ const EXPECTED: &[&[&str]] = &[SEGMENTS, format::EXPECTED, pieces::EXPECTED];
 
 const NUMBERS: &[(&str, &[u64])] = &[
     ("segment ended by", REASONS),
-    // All but the eighth: no handshake drops anything here.
+    // All but 8, handshake_dropped: there is no handshake here.
     ("count above 0", &[0, 1, 2, 3, 4, 5, 6, 7, 9, 10, 11]),
     ("bytes", format::BYTES),
     ("snapshot told", &[0, 4, 5, 6, 10, 11, 12, 13, 14]),

@@ -2,6 +2,7 @@
 
 use super::Cases;
 use crate::daybook::LONGEST;
+use crate::daybook::layout::{COUNT, PAIR};
 
 /// 2^32.
 const WRAP: u64 = 1 << 32;
@@ -68,6 +69,11 @@ fn half(file: &[u8], at: usize) -> u64 {
     byte(at) | byte(at + 1) << 8 | byte(at + 2) << 16 | byte(at + 3) << 24
 }
 
+/// Where so many pairs end.
+fn pairs_end(pairs: u64) -> u64 {
+    COUNT as u64 + PAIR as u64 * pairs
+}
+
 /// A piece as its pair says: where it begins, where it ends, and by where it should, each as wide as it needs.
 struct Span {
     offset: u64,
@@ -76,12 +82,12 @@ struct Span {
 }
 
 fn spans(file: &[u8], count: u64) -> Vec<Span> {
-    let at = |place: u64| 4 + 8 * place as usize;
+    let at = |place: u64| pairs_end(place) as usize;
     let span = |place: u64| {
         let offset = half(file, at(place));
         Span {
             offset,
-            end: offset + half(file, at(place) + 4),
+            end: offset + half(file, at(place) + PAIR / 2),
             by: match place + 1 == count {
                 true => file.len() as u64,
                 false => half(file, at(place + 1)),
@@ -93,7 +99,7 @@ fn spans(file: &[u8], count: u64) -> Vec<Span> {
 
 /// The rules that the pairs break.
 fn broken(spans: &[Span]) -> Vec<&'static str> {
-    let behind_pairs = 4 + 8 * spans.len() as u64;
+    let behind_pairs = pairs_end(spans.len() as u64);
     let rising = spans.windows(2).all(|two| two[1].offset > two[0].offset);
     let first = spans.first().is_none_or(|s| s.offset >= behind_pairs);
     let (last, others) = match spans.split_last() {
@@ -112,11 +118,11 @@ impl Cases {
         if BYTES.contains(&bytes) {
             self.number("bytes", bytes);
         }
-        if bytes < 4 {
+        if file.len() < COUNT {
             return self.add(NO_COUNT);
         }
         let count = half(file, 0);
-        if bytes < 4 + 8 * count {
+        if bytes < pairs_end(count) {
             return self.short(bytes, count);
         }
         let spans = spans(file, count);
@@ -136,7 +142,7 @@ impl Cases {
 
     /// Fewer bytes than the pairs have.
     fn short(&mut self, bytes: u64, count: u64) {
-        let wanted = 4 + 8 * count;
+        let wanted = pairs_end(count);
         self.add(NO_PAIRS);
         if bytes + 1 == wanted {
             self.add("60: one byte short of its pairs");
@@ -182,7 +188,7 @@ impl Cases {
         let offset = spans[0].offset;
         if offset == 0 {
             self.add("60: first piece at 0");
-        } else if offset + 1 == 4 + 8 * spans.len() as u64 {
+        } else if offset + 1 == pairs_end(spans.len() as u64) {
             self.add("60: first piece one byte early");
         }
     }
@@ -231,7 +237,7 @@ impl Cases {
     }
 
     fn first_and_last(&mut self, bytes: u64, first: &Span, last: &Span, pieces: usize) {
-        match first.offset == 4 + 8 * pieces as u64 {
+        match first.offset == pairs_end(pieces as u64) {
             true => self.add("first piece right behind the pairs"),
             false => self.add("bytes before the first piece"),
         }
