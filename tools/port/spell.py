@@ -15,12 +15,12 @@ DECLARED = re.compile(r"^ *(?:pub |abbrev |unfoldable |let )*([^\W\d][\w'·]*(?:
 IMPORT = re.compile(r"^(?:ghost )?use ([\w.+·-]+)\.\{([^}]*)\}", re.UNICODE | re.MULTILINE)
 
 
-# Names that would fall together with another, mostly lemmas whose name a definition now needs.
+# Names that would fall together with another, mostly lemmas whose name a definition now needs; and where they stand.
 APART = {
-    "row_words": "drop-row_at",
-    "same_id": "same_id-eq",
-    "order_from": "order_from-order",
-    "goesOn": "is_continued",
+    "row_words": ("drop-row_at", "crates/book/proofs/"),
+    "same_id": ("same_id-eq", "crates/book_index/proofs/Index.antt"),
+    "order_from": ("order_from-order", "crates/piece/proofs/Encoded.antt"),
+    "goesOn": ("is_continued", "crates/"),
 }
 
 
@@ -85,12 +85,12 @@ def main():
     for path in antt + code:
         live.update(TOKEN.findall(texts[path]))
 
-    renamed = dict(APART)
+    renamed = {}
     taken -= set(APART)
     kept = []
     # definitions first, so that a lemma gives way
     for name in sorted(tokens, key=lambda name: ("-" in name, name)):
-        if name in imported or name.startswith("«"):
+        if name in imported or name in APART or name.startswith("«"):
             continue
         own = name in declared
         camel = any(is_camel(part) for part in name.split("-")) and re.match(r"[a-z]", name)
@@ -119,11 +119,12 @@ def main():
 
     for path, text in texts.items():
         lines = []
+        here = {**renamed, **{old: new for old, (new, where) in APART.items() if path.startswith(where)}}
         for line in text.split("\n"):
             if path.endswith(".rt") and '"' in line:
                 lines.append(line)
                 continue
-            lines.append(TOKEN.sub(lambda m: renamed.get(m.group(0), m.group(0)), line))
+            lines.append(TOKEN.sub(lambda m: here.get(m.group(0), m.group(0)), line))
         new_text = "\n".join(lines)
         if new_text != text and "--dry" not in sys.argv:
             with open(path, "w", encoding="utf-8") as file:

@@ -11,7 +11,7 @@ use message::{L3Side, OrderId};
 pub fn has_id(o: Resting, id: OrderId) -> bool
     ensures { result ≡ same_id (id_of o) id }
 {
-    message::same_id-eq(
+    message::same_id(
         OrderId {
             high: o.high,
             low: o.low,

@@ -156,7 +156,7 @@ pub fn same_side(a: L3Side, b: L3Side) -> bool
     }
 }
 
-pub fn same_id-eq(a: OrderId, b: OrderId) -> bool
+pub fn same_id(a: OrderId, b: OrderId) -> bool
     ensures { result ≡ same_id a b }
 {
     (a.high == b.high) & (a.low == b.low)

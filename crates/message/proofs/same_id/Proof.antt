@@ -1,7 +1,7 @@
 use mathlib.Core.Path.{refl}
 use Rattle.message.specs.Same.{same_id}
-use Rattle.message.proofs.same_id-eq.Statement.{statement}
-use Rattle.message.proofs.same_id-eq.Tie as tie
+use Rattle.message.proofs.same_id.Statement.{statement}
+use Rattle.message.proofs.same_id.Tie as tie
 
 returns : tie.Need-returns
 unfolding same_id
