@@ -1,4 +1,6 @@
 // The book: rows of eight words, and the line of orders they stand for. Only `get_row` and `set_row` touch words.
+#![tactic(auto)]
+
 ghost use Rattle.std.specs.Prelude.{◌≡◌, ◌+◌, ◌*◌, ◌≤◌, length};
 ghost use Rattle.book.specs.Rows.{row_words, most_rows, row_at, set_row, side_of};
 
@@ -11,28 +13,28 @@ pub const ROW_WORDS: usize = 8;
 pub const MOST_ROWS: usize = 4096;
 
 // The answer of a search.
-#[derive(Drop)]
+#[derive(Clone, Copy)]
 pub enum Found {
     At(usize),
     Nothing,
 }
 
 // The best price of a side, if it has orders.
-#[derive(Drop)]
+#[derive(Clone, Copy)]
 pub enum BestPrice {
     Price(u64),
     NoPrice,
 }
 
 // Whether a reduction marks the order as decreased, and at which sequence.
-#[derive(Drop)]
+#[derive(Clone, Copy)]
 pub enum Decrease {
     Unmarked,
     Marked(u64),
 }
 
 // A resting order: the eight words of its row, in their order.
-#[derive(Drop)]
+#[derive(Clone, Copy)]
 pub struct Resting {
     pub high: u64,
     pub low: u64,

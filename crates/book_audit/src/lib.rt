@@ -1,4 +1,6 @@
 // The Rust's audit of the book, in expected linear time.
+#![tactic(auto)]
+
 ghost use Rattle.std.specs.Prelude.{◌≡◌};
 ghost use Rattle.book.specs.Rows.{Lent, rows_of};
 ghost use Rattle.book_valid.specs.Audit.{some_empty, audit_of};

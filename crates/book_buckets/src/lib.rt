@@ -1,4 +1,6 @@
 // How many distinct keys the rows have, in expected linear time: chained buckets in local tables.
+#![tactic(auto)]
+
 ghost use Rattle.std.specs.Prelude.{◌≡◌, ◌+◌, ◌≤◌, ◌<◌, ◌/◌, ◌%◌, length};
 ghost use Rattle.book.specs.Rows.{Lent, most_rows, rows_of};
 ghost use Rattle.book_row_keys.specs.Keys.{key_of, has_key, count_keys};

@@ -1,4 +1,6 @@
 // What an accepted call does to the rows: an order joins, is reduced or leaves.
+#![tactic(auto)]
+
 ghost use Rattle.std.specs.Prelude.{◌≡◌, [], ◌∷◌, ◌++◌, ◌+◌, ◌*◌, ◌≤◌, ◌<◌, length, set};
 ghost use Rattle.book.specs.Rows.{Lent, row_words, most_rows, empty_row, row_at, rows_of, stored, remove_at, reduced};
 

@@ -1,5 +1,7 @@
 // An index beside the rows, for a run of messages: where to look first for an id, and prices that an open does not cross. Orders that have left stay in it,
 // so that a removal costs nothing; a row has moved down since it was marked, never up.
+#![tactic(auto)]
+
 ghost use Rattle.std.specs.Prelude.{◌≡◌, ◌≤◌, ◌<◌};
 ghost use Rattle.book.specs.Line.{would_cross};
 ghost use Rattle.book.specs.Rows.{Lent, rows_of, line_of, find_row};
@@ -11,7 +13,7 @@ use book_row_keys::Key;
 use message::{L3Side, OrderId};
 
 // No buy is above `high_bid`, no sell below `low_ask`, where they are known.
-#[derive(Drop)]
+#[derive(Clone, Copy)]
 pub struct Bounds {
     pub known: bool,
     pub high_bid: u64,

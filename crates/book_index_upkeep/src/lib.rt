@@ -1,4 +1,6 @@
 // The upkeep of an index: its places and bounds from the rows, and what an event adds.
+#![tactic(auto)]
+
 ghost use Rattle.std.specs.Prelude.{◌≡◌, true, ◌≤◌, length};
 ghost use Rattle.book.specs.Rows.{Lent, most_rows, rows_of};
 ghost use Rattle.book_index.specs.Index.{bounded, row_marked, row_bounded, all, Foreseen, marked_at, noted};

@@ -1,4 +1,6 @@
 // Whether an id rests twice, and how many levels there are, in expected linear time.
+#![tactic(auto)]
+
 ghost use Rattle.std.specs.Prelude.{◌≡◌, not};
 ghost use Rattle.message.specs.Same.{same_side};
 ghost use Rattle.book.specs.Line.{levels, side_levels};

@@ -1,5 +1,7 @@
 // Runs the book: search, insert, reduce and removal, levels and walks, books of 0, 1, 4 and 4,096 rows, and rows damaged in every way that
 // number 3 names. `stdout` beside this folder was worked out apart from this program.
+#![tactic(auto)]
+
 ghost use Rattle.std.specs.Prelude.{◌<◌};
 
 use book::{BestPrice, Decrease, Found, Resting};

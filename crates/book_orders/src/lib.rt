@@ -1,4 +1,6 @@
 // The orders at a side and price, in order of arrival: how many, and the words that reads write of them.
+#![tactic(auto)]
+
 ghost use Rattle.std.specs.Prelude.{◌≡◌, cond, ◌++◌, ◌+◌, ◌≤◌, length, take, drop};
 ghost use Rattle.book.specs.Line.{same_level};
 ghost use Rattle.book.specs.Rows.{Lent, rows_of, side_of};

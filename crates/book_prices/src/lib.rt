@@ -1,4 +1,6 @@
 // The best prices of the rows, and whether an order would cross them.
+#![tactic(auto)]
+
 ghost use Rattle.std.specs.Prelude.{◌≡◌, cond};
 ghost use Rattle.message.specs.declared.L3Side.TheVariants.{Buy, Sell};
 ghost use Rattle.message.specs.Same.{same_side};

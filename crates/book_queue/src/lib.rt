@@ -1,4 +1,6 @@
 // An order at a level as words: an entry of `level_queue`, or one of an ahead-list.
+#![tactic(auto)]
+
 ghost use Rattle.std.specs.Prelude.{◌≡◌, cond, ◌++◌, ◌+◌, ◌≤◌, ltb, length, take, drop};
 ghost use Rattle.book_queue.specs.Queue.{entry_width, entry_words};
 
@@ -11,7 +13,7 @@ pub const QUEUE_WORDS: usize = 5;
 pub const AHEAD_ENTRY_WORDS: usize = 3;
 
 // What is written of an order: an entry of `level_queue`, or one of an ahead-list.
-#[derive(Drop)]
+#[derive(Clone, Copy)]
 pub enum EntryForm {
     Queue,
     Ahead,

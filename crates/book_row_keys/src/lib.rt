@@ -1,4 +1,6 @@
 // What two rows are compared by.
+#![tactic(auto)]
+
 ghost use Rattle.std.specs.Prelude.{◌≡◌};
 ghost use Rattle.book_row_keys.specs.Keys.{key_of, same_key};
 
@@ -6,14 +8,14 @@ use book::Resting;
 use message::L3Side;
 
 // What two rows are compared by: their ids, their levels, or their prices if they are of a side.
-#[derive(Drop)]
+#[derive(Clone, Copy)]
 pub enum KeyKind {
     Id,
     Level,
     LevelOf(L3Side),
 }
 
-#[derive(Drop)]
+#[derive(Clone, Copy)]
 pub struct Key {
     pub high: u64,
     pub low: u64,

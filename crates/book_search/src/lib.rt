@@ -1,4 +1,6 @@
 // Search in the rows: by id, and at a side and price.
+#![tactic(auto)]
+
 ghost use Rattle.std.specs.Prelude.{◌≡◌};
 ghost use Rattle.message.specs.Same.{same_id};
 ghost use Rattle.book.specs.Line.{has_level, same_level};

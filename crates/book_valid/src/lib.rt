@@ -1,4 +1,6 @@
 // Number 3, as far as the rows go, in expected linear time; and what an audit of the book answers.
+#![tactic(auto)]
+
 ghost use Rattle.std.specs.Prelude.{◌≡◌, ◌||◌};
 ghost use Rattle.book.specs.Line.{crossed};
 ghost use Rattle.book.specs.Rows.{Lent, rows_of, line_of};
@@ -10,7 +12,7 @@ use message::L3Side;
 
 // What an audit finds first. The Rust's other findings, on queues and totals that disagree with the orders, have no place here: a level is
 // worked out from the rows.
-#[derive(Drop)]
+#[derive(Clone, Copy)]
 pub enum AuditAnswer {
     Ok,
     // More rows than 4,096, or than the words hold.

@@ -1,4 +1,6 @@
 // A day's segment listing: the replay of a day file, as hosts and the program call it.
+#![tactic(auto)]
+
 ghost use Rattle.std.specs.Prelude.{◌≡◌, ◌≤◌, ◌<◌, length};
 ghost use Rattle.text.specs.Writes.{Writes};
 ghost use Rattle.daybook_lines.specs.Most.{listing_bytes};

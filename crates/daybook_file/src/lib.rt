@@ -1,4 +1,6 @@
 // A day file: pieces behind pairs of offset and length. Whether it keeps the format's rules, and where its pieces are.
+#![tactic(auto)]
+
 ghost use Rattle.std.specs.Prelude.{◌≡◌, true, ◌+◌, ◌<◌, ◌≤◌, length};
 ghost use Rattle.daybook_file.specs.DayFile.{piece_count, pair_at, offset_of, end_of, before_next, in_place, day_shaped, pieces_of, product_of};
 

@@ -1,4 +1,6 @@
 // The lines of a day's listing, written into a text.
+#![tactic(auto)]
+
 ghost use Rattle.std.specs.Prelude.{◌≡◌, ◌∷◌, ◌+◌, ◌*◌, ◌≤◌, length, take};
 ghost use Rattle.text.specs.Lines.{space, most_spaced};
 ghost use Rattle.text.specs.Writes.{Writes};

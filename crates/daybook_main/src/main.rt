@@ -1,4 +1,6 @@
 // The program `daybook`: lists which stretches of a day could be shown, of the day file on its standard input.
+#![tactic(auto)]
+
 ghost use Rattle.std.specs.Prelude.{◌≡◌, ◌≤◌, ◌<◌, length, take};
 ghost use Rattle.io.specs.Counts.{IsPrefixLen};
 ghost use Rattle.daybook_file.specs.DayFile.{day_bytes};
@@ -12,7 +14,7 @@ use libc::{STDIN_FILENO, STDOUT_FILENO};
 const INPUT_BYTES: usize = 65537;
 
 // What a read or a write moved, and whether it is the last. One that a signal interrupted moved nothing, and is made again.
-#[derive(Drop)]
+#[derive(Clone, Copy)]
 struct Moved {
     bytes: usize,
     last: bool,

@@ -1,4 +1,6 @@
 // A piece of a day file, on a book that passes 1, 2 and 3: a snapshot or a message, with an index of the rows, which is made anew for each snapshot taken.
+#![tactic(auto)]
+
 ghost use Rattle.std.specs.Prelude.{◌≡◌, false, ◌≤◌, length};
 ghost use Rattle.piece.specs.Piece.{read_message};
 ghost use Rattle.book.specs.Rows.{Lent, rows_of};
@@ -21,7 +23,7 @@ use reconstructor_segments::Segment;
 use reconstructor_state::BookReconstructor;
 
 // What a piece comes to, beside the rows and the index's places.
-#[derive(Drop)]
+#[derive(Clone, Copy)]
 pub struct Turn {
     // The number that it is answered with.
     pub number: u64,

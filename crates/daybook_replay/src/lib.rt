@@ -1,4 +1,6 @@
 // The replay of a day file that keeps its rules: its pieces in file order on a fresh book, up to one that stops it. 1, 2 and 3 turn away no state on the way.
+#![tactic(auto)]
+
 ghost use Rattle.std.specs.Prelude.{◌≡◌, true, ◌≤◌, length};
 ghost use Rattle.daybook_file.specs.DayFile.{day_shaped};
 ghost use Rattle.daybook_segments.specs.DaySegments.{day_segments};

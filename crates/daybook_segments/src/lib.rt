@@ -1,4 +1,6 @@
 // A day's segment list, an array of records, lent as a slice to the functions on a list of them; and what a day's replay leaves.
+#![tactic(auto)]
+
 ghost use Rattle.std.specs.Prelude.{◌≡◌, set};
 ghost use Rattle.reconstructor_segments.specs.Segments.{relast};
 ghost use Rattle.daybook_segments.specs.DaySegments.{no_segments};
@@ -11,14 +13,14 @@ use reconstructor_state::BookReconstructor;
 pub const DAY_SEGMENTS: usize = 64;
 
 // Where a replay was stopped: the piece, counted from 1, and the number that it was turned away by.
-#[derive(Drop)]
+#[derive(Clone, Copy)]
 pub enum Stop {
     Never,
     At { piece: usize, number: u64 },
 }
 
 // What a replay leaves.
-#[derive(Drop)]
+#[derive(Clone, Copy)]
 pub struct Day {
     pub book: BookReconstructor,
     pub segments: [Segment; DAY_SEGMENTS],

@@ -4,6 +4,8 @@
 // Before the rules, a call that reads a state answers 768 where an input of fixed size is lent too short (27 words of state, 21 of a message, 4 of a handshake, 8 of an
 // estimate), 4 where words are those of no message, handshake, estimate or side, and 3, after 1 and 2, where the state is that of no book; it then touches nothing
 // (crate `host_boundary`). An output that is too small is 7, said last.
+#![tactic(auto)]
+
 ghost use Rattle.std.specs.Prelude.{◌≡◌, ◌≤◌, ◌<◌, length};
 ghost use Rattle.piece.specs.Piece.{read_message, read_snapshot, order_at};
 ghost use Rattle.book.specs.Broken.{words_broken};

@@ -1,4 +1,6 @@
 // A volume ahead as words; the layout is beside the answers' enums (crate `queue`, specs/Numbers.antt).
+#![tactic(auto)]
+
 ghost use Rattle.std.specs.Prelude.{◌≡◌};
 ghost use Rattle.queue.specs.Numbers.{assumption_word, flag_word, ahead_values, ahead_told};
 ghost use Rattle.host_answers.specs.Answers.{answered, given, told_in};

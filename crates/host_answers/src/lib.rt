@@ -1,4 +1,6 @@
 // How a told answer becomes a number and words: specs/Answers.antt says what is written where, and the layouts are beside the answers' enums.
+#![tactic(auto)]
+
 ghost use Rattle.std.specs.Prelude.{◌≡◌};
 ghost use Rattle.book.specs.Memory.{memory};
 ghost use Rattle.reconstructor_state.specs.State.{ceiling, last_of};

@@ -1,4 +1,6 @@
 // The answers of the reads of a valid book, its last sequence and its best prices, as numbers and words.
+#![tactic(auto)]
+
 ghost use Rattle.std.specs.Prelude.{◌≡◌};
 ghost use Rattle.reconstructor_view.specs.Numbers.{sequence_told, present, price_of, best_told};
 ghost use Rattle.host_answers.specs.Answers.{answered, told_in};

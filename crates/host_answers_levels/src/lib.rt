@@ -1,4 +1,6 @@
 // The answers of the level reads as numbers and words: how many entries are shown.
+#![tactic(auto)]
+
 ghost use Rattle.std.specs.Prelude.{◌≡◌};
 ghost use Rattle.reconstructor_reads.specs.Numbers.{shown_told, level_told, stale_told};
 ghost use Rattle.host_answers.specs.Answers.{answered, told_in};

@@ -1,4 +1,6 @@
 // Why a book is invalid and a segment's record as numbers and words: 256 where there is none.
+#![tactic(auto)]
+
 ghost use Rattle.std.specs.Prelude.{◌≡◌};
 ghost use Rattle.reconstructor_view.specs.Numbers.{invalidation_told, segment_told};
 ghost use Rattle.host_answers.specs.Answers.{answered, told_in};

@@ -1,5 +1,7 @@
 // A message applied to a book whose state, message and segment list are words: the call that `host` exports. It does on words what `apply` does on a slice of
 // records, by the same work.
+#![tactic(auto)]
+
 ghost use Rattle.std.specs.Prelude.{◌≡◌};
 ghost use Rattle.host_calls.specs.Calls.{called, apply_call};
 

@@ -1,4 +1,6 @@
 // A run of messages applied to a book whose state and messages are words. Numbers 1, 2 and 3 are tested once.
+#![tactic(auto)]
+
 ghost use Rattle.std.specs.Prelude.{◌≡◌};
 ghost use Rattle.host_apply_all_run.specs.Run.{apply_all_called};
 ghost use Rattle.host_apply_all.specs.ApplyAll.{apply_all_call};

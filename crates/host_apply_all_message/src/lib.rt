@@ -1,4 +1,6 @@
 // A message of a run, applied to a book whose state and messages are words, with an index of the rows.
+#![tactic(auto)]
+
 ghost use Rattle.std.specs.Prelude.{◌≡◌, false, ◌≤◌, length};
 ghost use Rattle.piece.specs.Words.{message_words};
 ghost use Rattle.host_message_tests.specs.MessageTests.{no_message};
@@ -15,7 +17,7 @@ use host_words_store::{sets_status, store_book};
 use reconstructor_apply_run::apply_in_run;
 
 // What a message of the run leaves beside the lent words: its number, and the bounds of the rows.
-#[derive(Drop)]
+#[derive(Clone, Copy)]
 pub struct RunApplied {
     pub number: u64,
     pub bounds: Bounds,

@@ -1,4 +1,6 @@
 // A run of messages, one after the other, on a book that has passed 1, 2 and 3: an index of the rows serves the whole run.
+#![tactic(auto)]
+
 ghost use Rattle.std.specs.Prelude.{◌≡◌, ◌≤◌, length};
 ghost use Rattle.host_apply_all_message.specs.Runs.{Runs};
 ghost use Rattle.host_apply_all_run.specs.Run.{run, count_of, apply_all_called, after_run, Ready};

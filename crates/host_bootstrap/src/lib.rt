@@ -1,5 +1,7 @@
 // A snapshot piece taken for a book whose state and segment list are words: the call that `host` exports. It does on words what `bootstrap` does on a slice of
 // records, by the same work.
+#![tactic(auto)]
+
 ghost use Rattle.std.specs.Prelude.{◌≡◌};
 ghost use Rattle.host_calls.specs.Calls.{called, bootstrap_call};
 

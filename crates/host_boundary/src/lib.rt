@@ -1,4 +1,6 @@
 // What the words of an exported call are turned away for before the rules are worked: 768, 4, and 3 of a state block that is no book's. specs/Boundary.antt says when.
+#![tactic(auto)]
+
 ghost use Rattle.book.specs.Memory.{extent};
 ghost use Rattle.std.specs.Prelude.{◌≡◌, ◌≤◌};
 ghost use Rattle.book.specs.Rows.{most_rows};

@@ -1,4 +1,6 @@
 // What the words of a message's call and of a step are turned away for, as a number, or 0.
+#![tactic(auto)]
+
 ghost use Rattle.std.specs.Prelude.{◌≡◌, ◌||◌, ltb, length, get_or};
 ghost use Rattle.book.specs.Memory.{extent};
 ghost use Rattle.piece.specs.Words.{message_words};

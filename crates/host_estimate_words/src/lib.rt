@@ -1,4 +1,6 @@
 // An estimate from words and as words; the layout is beside the answers' enums (crate `queue`, specs/Numbers.antt).
+#![tactic(auto)]
+
 ghost use Rattle.std.specs.Prelude.{◌≡◌, [], ◌∷◌, ◌≤◌, length};
 ghost use Rattle.queue.specs.Numbers.{anchor_values, estimate_values, estimate_told};
 ghost use Rattle.host_answers.specs.Answers.{answered, given, told_in};
@@ -49,7 +51,7 @@ pub fn load_estimate(words: &[u64]) -> QueueEstimate
 }
 
 // The words of an anchor.
-#[derive(Drop)]
+#[derive(Clone, Copy)]
 struct AnchorWords {
     kind: u64,
     first: u64,

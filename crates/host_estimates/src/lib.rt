@@ -1,4 +1,6 @@
 // The queue estimate of a book whose state is words, as `host` exports it. specs/Estimates.antt defines the other exported estimates too (`host_estimates_own`, `host_ahead`).
+#![tactic(auto)]
+
 ghost use Rattle.std.specs.Prelude.{◌≡◌};
 ghost use Rattle.book.specs.Memory.{memory};
 ghost use Rattle.reconstructor_state.specs.State.{ceiling};

@@ -1,4 +1,6 @@
 // The estimate of an own order in a book whose state is words, as `host` exports it.
+#![tactic(auto)]
+
 ghost use Rattle.std.specs.Prelude.{◌≡◌};
 ghost use Rattle.host_answers.specs.Answers.{answered};
 ghost use Rattle.host_estimates.specs.Estimates.{own_call};

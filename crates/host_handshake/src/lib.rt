@@ -1,4 +1,6 @@
 // A handshake as words. specs/HandshakeWords.antt has the layout.
+#![tactic(auto)]
+
 ghost use Rattle.std.specs.Prelude.{◌≡◌, ◌≤◌, length};
 ghost use Rattle.host_handshake.specs.HandshakeWords.{handshake_words, handshake_of, ended_word, handshake_left, step_sets};
 

@@ -1,4 +1,6 @@
 // The read of the orders at one level, of a valid book whose state is words, which `host` exports.
+#![tactic(auto)]
+
 ghost use Rattle.std.specs.Prelude.{◌≡◌};
 ghost use Rattle.host_level_stops.specs.Stops.{level_called};
 ghost use Rattle.host_level_queue.specs.LevelQueue.{queue_call};

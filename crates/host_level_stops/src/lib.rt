@@ -1,4 +1,6 @@
 // What stands in the way of a level read of a book whose state is words. specs/Stops.antt says what every level read comes to.
+#![tactic(auto)]
+
 ghost use Rattle.std.specs.Prelude.{◌≡◌};
 ghost use Rattle.host_level_stops.specs.Stops.{level_stop};
 

@@ -1,4 +1,6 @@
 // The reads of all levels of a side, of a valid book whose state is words: those that `host` exports.
+#![tactic(auto)]
+
 ghost use Rattle.std.specs.Prelude.{◌≡◌};
 ghost use Rattle.host_level_stops.specs.Stops.{level_called};
 ghost use Rattle.host_levels.specs.Levels.{profile_call, l2_call};

@@ -1,4 +1,6 @@
 // Whether words are those of no message, by its kind.
+#![tactic(auto)]
+
 ghost use Rattle.std.specs.Prelude.{◌≡◌};
 ghost use Rattle.host_message_tests.specs.MessageTests.{no_done, no_change, no_message};
 

@@ -1,4 +1,6 @@
 // A message's values as words: kind, reasons, optional amounts.
+#![tactic(auto)]
+
 ghost use Rattle.std.specs.Prelude.{◌≡◌};
 ghost use Rattle.piece.specs.Encode.{kind_byte, done_reason_byte, change_reason_byte, present_bit, optional_word};
 

@@ -1,4 +1,6 @@
 // A message from words and as words; Words.antt of crate `piece`, and specs/Block.antt of crate `host_words`, have the layout.
+#![tactic(auto)]
+
 ghost use Rattle.std.specs.Prelude.{◌≡◌, ◌≤◌, length};
 ghost use Rattle.piece.specs.Words.{message_words, event_words};
 ghost use Rattle.piece.specs.Piece.{done_reason_of, change_reason_of};

@@ -1,4 +1,6 @@
 // A handshake made for a book whose state is words: the call that `host` exports.
+#![tactic(auto)]
+
 ghost use Rattle.std.specs.Prelude.{◌≡◌};
 ghost use Rattle.host_answers.specs.Answers.{answered};
 ghost use Rattle.host_new_handshake.specs.NewHandshake.{handshake_call};

@@ -1,4 +1,6 @@
 // A snapshot piece and its orders read into words: the readers that `host` exports. specs/Pieces.antt says the same of a message (`host_pieces_message`).
+#![tactic(auto)]
+
 ghost use Rattle.std.specs.Prelude.{◌≡◌};
 ghost use Rattle.piece.specs.Piece.{read_snapshot, order_at};
 ghost use Rattle.host_pieces.specs.Pieces.{snapshot_number, snapshot_out, order_number, order_out};

@@ -1,4 +1,6 @@
 // A message piece read into words, as `host` exports it.
+#![tactic(auto)]
+
 ghost use Rattle.std.specs.Prelude.{◌≡◌};
 ghost use Rattle.piece.specs.Piece.{read_message};
 ghost use Rattle.host_pieces.specs.Pieces.{message_number, message_out};

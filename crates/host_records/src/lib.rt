@@ -1,4 +1,6 @@
 // A segment list as words, eight a record: the form in which C lends it. What `reconstructor_segments` does on a slice of records is done on their words here and, to write, in `host_records_store`.
+#![tactic(auto)]
+
 ghost use Rattle.std.specs.Prelude.{◌≡◌, ◌+◌, ◌*◌, ◌≤◌, length};
 ghost use Rattle.reconstructor_segments.specs.Segments.{segment_at, last_segment};
 ghost use Rattle.host_records.specs.Records.{record_words, record_at, records_of};

@@ -1,4 +1,6 @@
 // A record written into a segment list's words; crate `host_records` reads them, and its specs/Records.antt has the layout.
+#![tactic(auto)]
+
 ghost use Rattle.std.specs.Prelude.{◌≡◌, ◌+◌, ◌*◌, ◌≤◌, length, set};
 ghost use Rattle.reconstructor_segments.specs.Segments.{relast};
 ghost use Rattle.host_records.specs.Records.{record_words, records_of, set_record, relaid};

@@ -1,4 +1,6 @@
 // The level read of an invalid book whose state is words, which `host` exports.
+#![tactic(auto)]
+
 ghost use Rattle.std.specs.Prelude.{◌≡◌, []};
 ghost use Rattle.book.specs.Memory.{memory};
 ghost use Rattle.reconstructor_state.specs.State.{ceiling};

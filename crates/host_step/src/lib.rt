@@ -1,5 +1,7 @@
 // A handshake stepped where the state, the handshake, the message and the segment list are words: the call that `host` exports. It does on words what
 // `Handshake::step` does on a slice of records, by the same work.
+#![tactic(auto)]
+
 ghost use Rattle.std.specs.Prelude.{◌≡◌};
 ghost use Rattle.host_calls.specs.Calls.{step_called, step_call};
 

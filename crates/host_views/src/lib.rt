@@ -1,4 +1,6 @@
 // The reads of a valid book whose state is words, those whose answer is a value: of those that `host` exports.
+#![tactic(auto)]
+
 ghost use Rattle.std.specs.Prelude.{◌≡◌};
 ghost use Rattle.host_answers.specs.Answers.{answered};
 ghost use Rattle.host_views.specs.Views.{last_call, best_call, audit_call};

@@ -1,4 +1,6 @@
 // The reads of the state's own fields and of the lent list, whatever the standing: of those that `host` exports.
+#![tactic(auto)]
+
 ghost use Rattle.std.specs.Prelude.{◌≡◌};
 ghost use Rattle.host_answers.specs.Answers.{answered};
 ghost use Rattle.host_views_segment.specs.SegmentViews.{invalidation_call, segment_call};

@@ -1,4 +1,6 @@
 // Tests of words before they are read as values: whether a handshake, an estimate or a book has them, and whether what is lent is as long as a state says.
+#![tactic(auto)]
+
 ghost use Rattle.std.specs.Prelude.{◌≡◌, ltb, get_or};
 ghost use Rattle.host_word_tests.specs.WordTests.{no_bit, no_handshake, no_estimate, no_reason, no_book};
 

@@ -1,4 +1,6 @@
 // A state from its block, the words of its status, and the values that words are made of; specs/Block.antt has the layouts. Crate `host_words_store` writes a block, `host_messages` has a message's words.
+#![tactic(auto)]
+
 ghost use Rattle.std.specs.Prelude.{◌≡◌, ◌≤◌, length};
 ghost use Rattle.std.specs.Int.{w64};
 ghost use Rattle.std.proofs.Common.{of_z, to_z};
@@ -164,7 +166,7 @@ pub fn load_book(words: &[u64]) -> BookReconstructor
 // ---- a block from its state
 
 // An invalidation's reason: its number, the two sequences of 20 and 21, and which 38 it is.
-#[derive(Drop)]
+#[derive(Clone, Copy)]
 pub struct KindWords {
     pub number: u64,
     pub first: u64,
@@ -172,7 +174,7 @@ pub struct KindWords {
     pub detail: u64,
 }
 
-#[derive(Drop)]
+#[derive(Clone, Copy)]
 pub struct StatusWords {
     pub status: u64,
     pub last: u64,

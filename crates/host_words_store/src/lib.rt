@@ -1,4 +1,6 @@
 // A state's block as a call leaves it: what is written of the state, and whether the status is. specs/Block.antt of crate `host_words` has the layout.
+#![tactic(auto)]
+
 ghost use Rattle.std.specs.Prelude.{◌≡◌, ◌++◌, ◌≤◌, length, take, drop};
 ghost use Rattle.host_words.specs.Block.{state_words, status_after, rest_list, restored, sets_status};
 

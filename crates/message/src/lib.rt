@@ -1,18 +1,20 @@
 // Order by order (L3) messages and snapshots: the values of message.rs. Crates `piece_messages` and `piece_snapshots` read them from bytes.
+#![tactic(auto)]
+
 ghost use Rattle.std.specs.Prelude.{◌≡◌};
 ghost use Rattle.message.specs.Same.{same_side, same_id, same_product};
 
 pub mod amount; // amount.rt: tests on amounts
 
 // The side of an order. On a match it is the maker's side.
-#[derive(Drop)]
+#[derive(Clone, Copy)]
 pub enum L3Side {
     Buy,
     Sell,
 }
 
 // Why an order's lifecycle ended.
-#[derive(Drop)]
+#[derive(Clone, Copy)]
 pub enum DoneReason {
     // Filled: its remaining size is 0.
     Filled,
@@ -21,7 +23,7 @@ pub enum DoneReason {
 }
 
 // Why an order changed.
-#[derive(Drop)]
+#[derive(Clone, Copy)]
 pub enum ChangeReason {
     // Self trade prevention: the size (or the funds of a market order) is reduced.
     Stp,
@@ -30,28 +32,28 @@ pub enum ChangeReason {
 }
 
 // An amount in units of 10^-8 that a message may leave out.
-#[derive(Drop)]
+#[derive(Clone, Copy)]
 pub enum OptionalAmount {
     Absent,
     Given(i64),
 }
 
 // An order id, 128 bits: its 16 bytes in text order, the first eight as the high word.
-#[derive(Drop)]
+#[derive(Clone, Copy)]
 pub struct OrderId {
     pub high: u64,
     pub low: u64,
 }
 
 // A product, any 16 bytes: the first eight as the high word.
-#[derive(Drop)]
+#[derive(Clone, Copy)]
 pub struct ProductId {
     pub high: u64,
     pub low: u64,
 }
 
 // One event of the feed. Prices and sizes are in units of 10^-8.
-#[derive(Drop)]
+#[derive(Clone, Copy)]
 pub enum L3Event {
     // The matching engine received an order. It is not on the book.
     Received {
@@ -100,7 +102,7 @@ pub enum L3Event {
 }
 
 // The optional amounts of a change.
-#[derive(Drop)]
+#[derive(Clone, Copy)]
 pub struct ChangeFields {
     pub price: OptionalAmount,
     pub old_size: OptionalAmount,
@@ -111,7 +113,7 @@ pub struct ChangeFields {
 }
 
 // A sequenced message of one product.
-#[derive(Drop)]
+#[derive(Clone, Copy)]
 pub struct L3Message {
     pub product_id: ProductId,
     pub sequence: u64,
@@ -121,7 +123,7 @@ pub struct L3Message {
 }
 
 // One resting order of a snapshot.
-#[derive(Drop)]
+#[derive(Clone, Copy)]
 pub struct SnapshotOrder {
     pub order_id: OrderId,
     pub price: i64,
@@ -129,7 +131,7 @@ pub struct SnapshotOrder {
 }
 
 // A level 3 snapshot without its orders, which `piece_snapshots::snapshot_order` reads by place: first the bids, then the asks.
-#[derive(Drop)]
+#[derive(Clone, Copy)]
 pub struct L3Snapshot {
     pub product_id: ProductId,
     pub sequence: u64,

@@ -1,4 +1,6 @@
 // Number 5's test: whether every amount that is present is in range.
+#![tactic(auto)]
+
 ghost use Rattle.std.specs.Prelude.{◌≡◌, ◌&&◌};
 ghost use Rattle.message.specs.Values.{in_range, optional_in_range, event_in_range};
 

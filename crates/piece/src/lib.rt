@@ -1,5 +1,7 @@
 // Pieces: what is read of bytes, why they are turned away (4 and 5 of 01's table), and the fields that both kinds of piece are made of. Crates `piece_messages` and
 // `piece_snapshots` read whole pieces.
+#![tactic(auto)]
+
 ghost use Rattle.std.specs.Prelude.{◌≡◌, ◌+◌, ◌<◌, ◌≤◌, length, get_or};
 ghost use Rattle.std.specs.Int.{w64};
 ghost use Rattle.std.proofs.Common.{to_z};

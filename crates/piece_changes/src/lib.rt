@@ -1,4 +1,6 @@
 // A change as a message piece: six optional amounts.
+#![tactic(auto)]
+
 ghost use Rattle.std.specs.Prelude.{◌≡◌, length};
 ghost use Rattle.piece.specs.Piece.{change_shaped, change_fields_at, change_of, read_change};
 

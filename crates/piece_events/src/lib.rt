@@ -1,4 +1,6 @@
 // The events of message pieces but a change: each kind's length and fields.
+#![tactic(auto)]
+
 ghost use Rattle.std.specs.Prelude.{◌≡◌, length};
 ghost use Rattle.piece.specs.Piece.{event_if, read_received, read_open, done_shaped, read_done, read_match, read_unsupported};
 

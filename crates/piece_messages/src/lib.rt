@@ -1,4 +1,6 @@
 // The reader of message pieces, by numbers 4 and 5 of 01's table: an event by its kind, then the message.
+#![tactic(auto)]
+
 ghost use Rattle.std.specs.Prelude.{◌≡◌, ◌<◌, length};
 ghost use Rattle.piece.specs.Piece.{read_event, read_message};
 ghost use Rattle.piece.specs.Words.{read_message_told};

@@ -1,4 +1,6 @@
 // The reader of snapshot pieces, by numbers 4 and 5 of 01's table: its orders by place, then the snapshot without them.
+#![tactic(auto)]
+
 ghost use Rattle.std.specs.Prelude.{◌≡◌, ◌+◌, ◌≤◌, length};
 ghost use Rattle.message.specs.Values.{order_in_range, orders_in_range};
 ghost use Rattle.piece.specs.Piece.{snapshot_shaped, order_from, no_order, order_at, orders_from, read_snapshot};

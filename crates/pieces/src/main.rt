@@ -1,5 +1,7 @@
 // Reads pieces from standard input, each behind its length (4 bytes, little-endian), and prints what the exported readers find: for each piece
 // a line of the message reader (m) and a line of the snapshot reader (s), the number of 01's table first and then the fields.
+#![tactic(auto)]
+
 ghost use Rattle.std.specs.Prelude.{◌+◌, ◌<◌, ◌≤◌, length};
 ghost use Rattle.piece.specs.Words.{message_words};
 

@@ -1,5 +1,7 @@
 // Volume ahead of an own order, under declared hypotheses: queue estimation, kept apart from the visible book. It validates no fill model.
 // Here are its values and definitions; crates `queue_estimates`, `queue_estimates_own` and `queue_ahead` have the calls.
+#![tactic(auto)]
+
 ghost use Rattle.std.specs.Prelude.{◌≡◌};
 ghost use Rattle.queue.specs.Numbers.{queue_error_number};
 
@@ -9,7 +11,7 @@ use reconstructor_segments::SegmentName;
 use reconstructor_view::ViewError;
 
 // A hypothesis a queue result rests on.
-#[derive(Drop)]
+#[derive(Clone, Copy)]
 pub enum Assumption {
     // A hypothetical order created now joins the back of the visible queue at its price.
     BackOfVisibleQueueAtCreation,
@@ -20,7 +22,7 @@ pub enum Assumption {
 }
 
 // Why a queue result is unavailable: the view's numbers, 7, 8, 50, 51, 52.
-#[derive(Drop)]
+#[derive(Clone, Copy)]
 pub enum QueueError {
     View(ViewError),
     OutputTooSmall,
@@ -33,7 +35,7 @@ pub enum QueueError {
     NotResting,
 }
 
-#[derive(Drop)]
+#[derive(Clone, Copy)]
 pub enum Anchor {
     // A hypothetical order created at `created_at`, ahead of it the `orders` of the caller's ahead-list.
     Hypothetical { orders: usize, created_at: u64 },
@@ -42,7 +44,7 @@ pub enum Anchor {
 }
 
 // A handle on the volume ahead of one order, read by `volume_ahead`. It is the caller's memory: any contents are answered.
-#[derive(Drop)]
+#[derive(Clone, Copy)]
 pub struct QueueEstimate {
     pub side: L3Side,
     pub price: i64,
@@ -51,7 +53,7 @@ pub struct QueueEstimate {
 }
 
 // The volume ahead of an order.
-#[derive(Drop)]
+#[derive(Clone, Copy)]
 pub struct QueueAhead {
     // The sequence it was read at.
     pub at_seq: u64,
@@ -65,20 +67,20 @@ pub struct QueueAhead {
     pub keeps_priority: bool,
 }
 
-#[derive(Drop)]
+#[derive(Clone, Copy)]
 pub enum EstimateAnswer {
     Estimate(QueueEstimate),
     Refused(QueueError),
 }
 
-#[derive(Drop)]
+#[derive(Clone, Copy)]
 pub enum AheadAnswer {
     Ahead(QueueAhead),
     Refused(QueueError),
 }
 
 // Sums over orders ahead, and whether one decreased after the estimate.
-#[derive(Drop)]
+#[derive(Clone, Copy)]
 pub struct Tally {
     pub volume: u64,
     pub from_snapshot: u64,
@@ -88,7 +90,7 @@ pub struct Tally {
 }
 
 // A row that rests, if any.
-#[derive(Drop)]
+#[derive(Clone, Copy)]
 pub enum Rests {
     Row(Resting),
     Gone,

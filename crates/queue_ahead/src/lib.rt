@@ -1,4 +1,6 @@
 // The volume ahead of an estimate's order, worked `_under` a ceiling.
+#![tactic(auto)]
+
 ghost use Rattle.std.specs.Prelude.{◌≡◌, false, not, ◌*◌, ◌≤◌, length};
 ghost use Rattle.book.specs.Rows.{Lent, most_rows};
 ghost use Rattle.book.specs.Memory.{memory, orders_of};

@@ -1,4 +1,6 @@
 // The estimate for an order created now, worked `_under` a ceiling.
+#![tactic(auto)]
+
 ghost use Rattle.std.specs.Prelude.{◌≡◌, ◌≤◌};
 ghost use Rattle.book.specs.Rows.{most_rows};
 ghost use Rattle.book.specs.Memory.{memory};

@@ -1,4 +1,6 @@
 // The estimate for our own order, worked `_under` a ceiling.
+#![tactic(auto)]
+
 ghost use Rattle.std.specs.Prelude.{◌≡◌, ◌≤◌};
 ghost use Rattle.message.specs.Values.{amount_limit};
 ghost use Rattle.book.specs.Rows.{most_rows};

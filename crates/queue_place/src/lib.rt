@@ -1,4 +1,6 @@
 // Where an order stands: its row by id, and whether our own order's place is known.
+#![tactic(auto)]
+
 ghost use Rattle.std.specs.Prelude.{◌≡◌};
 ghost use Rattle.book.specs.Rows.{Lent};
 ghost use Rattle.book.specs.Memory.{memory, orders_of};

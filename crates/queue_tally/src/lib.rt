@@ -1,4 +1,6 @@
 // Sums over the orders ahead of an own order: what an ahead-list's entries and the rows before our own add up to.
+#![tactic(auto)]
+
 ghost use Rattle.std.specs.Prelude.{◌≡◌, false, cond, ◌*◌, ◌≤◌, ltb, length};
 ghost use Rattle.message.specs.Same.{same_id};
 ghost use Rattle.message.specs.Values.{amount_limit};

@@ -1,9 +1,11 @@
 // Why a segment ends, why a state serves no call, and the answer of `apply`, with their numbers in 01's table.
+#![tactic(auto)]
+
 ghost use Rattle.std.specs.Prelude.{◌≡◌};
 ghost use Rattle.reconstructor_answers.specs.Numbers.{reason_detail, discrepancy_number, discrepancy_detail, kind_number, kind_detail, state_error_number, applied_number, answer_number};
 
 // Why a change without a new size is malformed.
-#[derive(Drop)]
+#[derive(Clone, Copy)]
 pub enum MalformedReason {
     // A funds change for a resting limit order.
     Funds,
@@ -11,7 +13,7 @@ pub enum MalformedReason {
 }
 
 // A message inconsistent with the book: the book can no longer be trusted. 30 to 44.
-#[derive(Drop)]
+#[derive(Clone, Copy)]
 pub enum Discrepancy {
     UnknownMaker,
     TakerResting,
@@ -31,7 +33,7 @@ pub enum Discrepancy {
 }
 
 // Why a segment stopped being valid: 20, 21, 22, or a discrepancy.
-#[derive(Drop)]
+#[derive(Clone, Copy)]
 pub enum InvalidationKind {
     // A sequence was skipped.
     Gap { expected: u64, got: u64 },
@@ -43,7 +45,7 @@ pub enum InvalidationKind {
 }
 
 // The end of a valid segment.
-#[derive(Drop)]
+#[derive(Clone, Copy)]
 pub struct Invalidation {
     // The last sequence applied while valid.
     pub last_good_seq: u64,
@@ -53,7 +55,7 @@ pub struct Invalidation {
 }
 
 // Why the state or the lent memory serves no call: 1, 2, 3. The Rust, which owns its memory, has no such answer.
-#[derive(Drop)]
+#[derive(Clone, Copy)]
 pub enum StateError {
     LimitAboveCeiling,
     LentTooShort,
@@ -61,7 +63,7 @@ pub enum StateError {
 }
 
 // What an applied message did.
-#[derive(Drop)]
+#[derive(Clone, Copy)]
 pub enum Applied {
     BookChanged,
     // It concerns no resting order, or changed nothing.
@@ -69,7 +71,7 @@ pub enum Applied {
 }
 
 // The answer of `apply`: the message was applied, or 1, 2, 3, 5, 10, 15, 16, 17.
-#[derive(Drop)]
+#[derive(Clone, Copy)]
 pub enum ApplyAnswer {
     Applied(Applied),
     Unusable(StateError),

@@ -1,5 +1,7 @@
 // `apply` by value: `apply_under` checks the state and what it is lent, then `apply_trusted` works the message on the last segment's record; `apply_by_value`
 // has our ceiling.
+#![tactic(auto)]
+
 ghost use Rattle.std.specs.Prelude.{◌≡◌, ◌≤◌};
 ghost use Rattle.book.specs.Rows.{most_rows};
 ghost use Rattle.book.specs.Memory.{memory};

@@ -1,4 +1,6 @@
 // `apply` on a list of segment records: it lends the work the last one, and writes it back.
+#![tactic(auto)]
+
 ghost use Rattle.std.specs.Prelude.{◌≡◌};
 ghost use Rattle.book.specs.Memory.{memory};
 ghost use Rattle.reconstructor_answers.specs.Numbers.{answer_told};

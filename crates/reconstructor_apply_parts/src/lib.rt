@@ -1,4 +1,6 @@
 // The parts of `apply` around a message's turn: what comes before it, and what it leaves of the last segment's record.
+#![tactic(auto)]
+
 ghost use Rattle.std.specs.Prelude.{◌≡◌};
 ghost use Rattle.reconstructor_state.specs.State.{last_of};
 ghost use Rattle.reconstructor.specs.Refusals.{admit_refusal};

@@ -1,4 +1,6 @@
 // `apply` of a message of a run, on a state that passes 1, 2 and 3 and with an index of its rows: the index goes on to fit the rows that the message leaves.
+#![tactic(auto)]
+
 ghost use Rattle.std.specs.Prelude.{◌≡◌};
 ghost use Rattle.book.specs.Rows.{most_rows};
 ghost use Rattle.book.specs.Memory.{memory, orders_of};
@@ -16,7 +18,7 @@ use reconstructor_segments::Segment;
 use reconstructor_state::BookReconstructor;
 
 // The work of a message, and the bounds of the rows after it.
-#[derive(Drop)]
+#[derive(Clone, Copy)]
 pub struct RunWork {
     pub work: Work,
     pub bounds: Bounds,

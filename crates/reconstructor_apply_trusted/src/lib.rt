@@ -1,4 +1,6 @@
 // `apply` of a state that passes 1, 2 and 3, with an index of its rows or without.
+#![tactic(auto)]
+
 ghost use Rattle.std.specs.Prelude.{◌≡◌};
 ghost use Rattle.book.specs.Rows.{most_rows, rows_of};
 ghost use Rattle.book.specs.Memory.{memory};

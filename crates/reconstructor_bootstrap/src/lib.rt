@@ -1,5 +1,7 @@
 // `bootstrap`: a snapshot piece takes the place of the book, or is turned away and leaves it as it was. Here are its answers with their numbers, what it leaves,
 // and the definitions; `reconstructor_snapshot` and `reconstructor_bootstrap_parts`, `_usable`, `_work`, `_list` have the code.
+#![tactic(auto)]
+
 ghost use Rattle.std.specs.Prelude.{◌≡◌};
 ghost use Rattle.reconstructor_bootstrap.specs.Numbers.{snapshot_error_number, snapshot_number};
 
@@ -8,7 +10,7 @@ use reconstructor_segments::Segment;
 use reconstructor_state::BookReconstructor;
 
 // Why a snapshot is refused, and counted so. 10 to 14.
-#[derive(Drop)]
+#[derive(Clone, Copy)]
 pub enum SnapshotError {
     WrongProduct,
     // The same id twice.
@@ -22,7 +24,7 @@ pub enum SnapshotError {
 }
 
 // The answer of `bootstrap`: the snapshot is the book now, or 1 to 6, or 10 to 14.
-#[derive(Drop)]
+#[derive(Clone, Copy)]
 pub enum SnapshotAnswer {
     Bootstrapped,
     Unusable(StateError),
@@ -34,21 +36,21 @@ pub enum SnapshotAnswer {
 }
 
 // What a validation finds.
-#[derive(Drop)]
+#[derive(Clone, Copy)]
 pub enum Validated {
     Fits,
     Refused(SnapshotError),
 }
 
 // What a call leaves of the state, with its answer.
-#[derive(Drop)]
+#[derive(Clone, Copy)]
 pub struct Reply {
     pub book: BookReconstructor,
     pub answer: SnapshotAnswer,
 }
 
 // The same, with what the snapshot makes of the last segment's record, and the record that it starts with its place: past the list's end where it starts none.
-#[derive(Drop)]
+#[derive(Clone, Copy)]
 pub struct Work {
     pub book: BookReconstructor,
     pub answer: SnapshotAnswer,

@@ -1,4 +1,6 @@
 // `bootstrap` on a list of segment records: it lends the work the last one, writes it back and writes the one that is started.
+#![tactic(auto)]
+
 ghost use Rattle.std.specs.Prelude.{◌≡◌};
 ghost use Rattle.book.specs.Memory.{memory};
 ghost use Rattle.reconstructor_state.specs.State.{ceiling};

@@ -1,4 +1,6 @@
 // The parts of `bootstrap`: a refusal, and what an accepted snapshot makes of the state and of the last segment's record.
+#![tactic(auto)]
+
 ghost use Rattle.std.specs.Prelude.{◌≡◌, ◌<◌};
 ghost use Rattle.reconstructor_counts.specs.Counts.{largest};
 ghost use Rattle.reconstructor_bootstrap.specs.Snapshot.{piece_answer};

@@ -1,4 +1,6 @@
 // `bootstrap` of a state that passes 1, 2 and 3: 6 and 10 to 14, or the snapshot is taken for the book.
+#![tactic(auto)]
+
 ghost use Rattle.std.specs.Prelude.{◌≡◌, ◌+◌, ◌<◌};
 ghost use Rattle.book.specs.Rows.{most_rows};
 ghost use Rattle.book.specs.Memory.{memory};

@@ -1,5 +1,7 @@
 // `bootstrap` by value: `bootstrap_under` checks the state and what it is lent and reads the piece, then `bootstrap_usable` works the snapshot on the last
 // segment's record; `bootstrap_by_value` has our ceiling.
+#![tactic(auto)]
+
 ghost use Rattle.std.specs.Prelude.{◌≡◌, ◌≤◌};
 ghost use Rattle.book.specs.Rows.{most_rows};
 ghost use Rattle.book.specs.Memory.{memory};

@@ -1,4 +1,6 @@
 // The port's own checks of a state and of what a call is lent: 1, 2 and 3, which every call that changes the book makes first.
+#![tactic(auto)]
+
 ghost use Rattle.std.specs.Prelude.{◌≡◌, false, ◌≤◌};
 ghost use Rattle.book.specs.Rows.{most_rows};
 ghost use Rattle.book.specs.Memory.{memory, extent_of};
@@ -8,7 +10,7 @@ use reconstructor_answers::StateError;
 use reconstructor_state::{BookReconstructor, Status, VenueRules};
 
 // The answer of the own checks.
-#[derive(Drop)]
+#[derive(Clone, Copy)]
 pub enum Checked {
     Passed,
     Refused(StateError),

@@ -1,9 +1,11 @@
 // Messages counted by what they did.
+#![tactic(auto)]
+
 ghost use Rattle.std.specs.Prelude.{◌≡◌};
 ghost use Rattle.reconstructor_counts.specs.Counts.{saturated, no_counts, counted};
 
 // Messages counted by what they did.
-#[derive(Drop)]
+#[derive(Clone, Copy)]
 pub struct MessageCounts {
     pub received: u64,
     // `open` applied.
@@ -26,7 +28,7 @@ pub struct MessageCounts {
 }
 
 // The counts by name, in the order of the fields. An accepted message adds to one of the first eight.
-#[derive(Drop)]
+#[derive(Clone, Copy)]
 pub enum Counter {
     Received,
     Open,

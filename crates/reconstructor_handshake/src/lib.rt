@@ -1,4 +1,6 @@
 // The snapshot handshake: after an accepted snapshot, buffered messages are stepped one by one; those that the snapshot already has are dropped.
+#![tactic(auto)]
+
 ghost use Rattle.std.specs.Prelude.{◌≡◌, ◌≤◌};
 ghost use Rattle.book.specs.Rows.{most_rows};
 ghost use Rattle.book.specs.Memory.{memory};
@@ -18,7 +20,7 @@ use reconstructor_segments::{Segment, SegmentName};
 use reconstructor_state::{BookReconstructor, VenueRules};
 
 // A handshake for one segment, with how many messages it applied. It hands itself back at each step.
-#[derive(Drop)]
+#[derive(Clone, Copy)]
 pub struct Handshake {
     pub segment: SegmentName,
     pub ended: bool,
@@ -26,7 +28,7 @@ pub struct Handshake {
 }
 
 // The answer of a step: what `apply` says, a drop, or 9.
-#[derive(Drop)]
+#[derive(Clone, Copy)]
 pub enum StepAnswer {
     Stepped(ApplyAnswer),
     Dropped,
@@ -34,7 +36,7 @@ pub enum StepAnswer {
 }
 
 // What a step leaves of the handshake and the state, with its answer.
-#[derive(Drop)]
+#[derive(Clone, Copy)]
 pub struct StepReply {
     pub handshake: Handshake,
     pub book: BookReconstructor,
@@ -42,7 +44,7 @@ pub struct StepReply {
 }
 
 // The same, with what the step makes of the last segment's record.
-#[derive(Drop)]
+#[derive(Clone, Copy)]
 pub struct StepWork {
     pub handshake: Handshake,
     pub book: BookReconstructor,

@@ -1,4 +1,6 @@
 // What a message and an answer are to a handshake, whichever it is: which message is dropped, which answer ends it, how many are applied then.
+#![tactic(auto)]
+
 ghost use Rattle.std.specs.Prelude.{◌≡◌};
 ghost use Rattle.reconstructor_handshake_rules.specs.Answers.{ends, applied_by};
 ghost use Rattle.reconstructor_handshake_rules.specs.Drops.{drops};

@@ -1,5 +1,7 @@
 // What a message of a valid book will do, found before anything changes: a plan, or the discrepancy that ends the segment. Here are the rules and what a plan
 // promises; crates `reconstructor_plan_orders`, `_matches`, `_changes` and `_event` find it.
+#![tactic(auto)]
+
 ghost use Rattle.std.specs.Prelude.{◌≡◌};
 ghost use Rattle.reconstructor_plan.specs.Plans.{cut_plan};
 
@@ -8,7 +10,7 @@ use reconstructor_answers::Discrepancy;
 use reconstructor_counts::Counter;
 
 // What a message does to the rows, and which counter it adds to.
-#[derive(Drop)]
+#[derive(Clone, Copy)]
 pub enum Plan {
     NoEffect(Counter),
     // A new row, for an `open`.
@@ -26,7 +28,7 @@ pub enum Plan {
 }
 
 // The answer of planning.
-#[derive(Drop)]
+#[derive(Clone, Copy)]
 pub enum Planned {
     Plan(Plan),
     Refused(Discrepancy),

@@ -1,4 +1,6 @@
 // The plan of a change.
+#![tactic(auto)]
+
 ghost use Rattle.std.specs.Prelude.{◌≡◌};
 ghost use Rattle.book.specs.Rows.{Lent, rows_of, entry_of};
 ghost use Rattle.book_index.specs.Index.{Indexed};

@@ -1,4 +1,6 @@
 // The plan of an event, whatever its kind.
+#![tactic(auto)]
+
 ghost use Rattle.book.specs.Rows.{rows_of};
 ghost use Rattle.book_index.specs.Index.{Indexed};
 ghost use Rattle.reconstructor_plan.specs.Plans.{Ready, Plans};

@@ -1,4 +1,6 @@
 // The plan of an open and of a done.
+#![tactic(auto)]
+
 ghost use Rattle.std.specs.Prelude.{◌≡◌};
 ghost use Rattle.book.specs.Rows.{Lent, rows_of, line_of, entry_of, observed_row};
 ghost use Rattle.book_index.specs.Index.{Indexed};

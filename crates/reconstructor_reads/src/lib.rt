@@ -1,4 +1,6 @@
 // What the level reads share: their answers, and the words that each shows. Scratch and output are written only once 7 is out.
+#![tactic(auto)]
+
 ghost use Rattle.std.specs.Prelude.{◌≡◌, false, ◌≤◌, length};
 ghost use Rattle.book.specs.Rows.{Lent};
 ghost use Rattle.book.specs.Memory.{memory, orders_of};
@@ -16,21 +18,21 @@ pub const PROFILE_WORDS: usize = 3;
 pub const L2_WORDS: usize = 2;
 
 // How many entries were written, or 7.
-#[derive(Drop)]
+#[derive(Clone, Copy)]
 pub enum Shown {
     Entries(usize),
     OutputTooSmall,
 }
 
 // The answer of a read of a valid book.
-#[derive(Drop)]
+#[derive(Clone, Copy)]
 pub enum LevelAnswer {
     Shown(Shown),
     Refused(ViewError),
 }
 
 // The answer of `stale_l2`.
-#[derive(Drop)]
+#[derive(Clone, Copy)]
 pub enum StaleAnswer {
     // The book is not invalid: there is nothing stale to show.
     NotStale,

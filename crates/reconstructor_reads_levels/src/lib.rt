@@ -1,4 +1,6 @@
 // The reads of the levels of a valid book: `priority_profile` and `l2`, each worked `_under` a ceiling.
+#![tactic(auto)]
+
 ghost use Rattle.std.specs.Prelude.{◌≡◌, ◌≤◌};
 ghost use Rattle.book.specs.Rows.{most_rows};
 ghost use Rattle.book.specs.Memory.{memory};

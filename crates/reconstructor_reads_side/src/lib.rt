@@ -1,4 +1,6 @@
 // The read of a side's levels in a valid book, so many words each, under a ceiling.
+#![tactic(auto)]
+
 ghost use Rattle.std.specs.Prelude.{◌≡◌, ◌≤◌};
 ghost use Rattle.book.specs.Rows.{most_rows};
 ghost use Rattle.book.specs.Memory.{memory, orders_of};

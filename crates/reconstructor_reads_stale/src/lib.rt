@@ -1,4 +1,6 @@
 // The read of an invalid book: `stale_l2`, worked `_under` a ceiling.
+#![tactic(auto)]
+
 ghost use Rattle.std.specs.Prelude.{◌≡◌, ◌≤◌};
 ghost use Rattle.book.specs.Rows.{most_rows};
 ghost use Rattle.book.specs.Memory.{memory};

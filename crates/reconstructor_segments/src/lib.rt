@@ -1,11 +1,13 @@
 // Segment records and segment names.
+#![tactic(auto)]
+
 ghost use Rattle.std.specs.Prelude.{◌≡◌};
 ghost use Rattle.reconstructor_segments.specs.Segments.{no_segment, started, superseded, extended, ended, elapsed, accepted_messages, same_segment};
 
 use reconstructor_answers::Invalidation;
 
 // A run of messages applied on one snapshot.
-#[derive(Drop)]
+#[derive(Clone, Copy)]
 pub struct Segment {
     // The snapshot's sequence.
     pub start_seq: u64,
@@ -109,7 +111,7 @@ impl Segment {
 }
 
 // A segment's name: the reconstructor's number, which the host gives, with the segment's place in the list.
-#[derive(Drop)]
+#[derive(Clone, Copy)]
 pub struct SegmentName {
     pub number: u64,
     pub place: usize,

@@ -1,4 +1,6 @@
 // The segment list, lent as a run of records: its last record read and rewritten, one appended.
+#![tactic(auto)]
+
 ghost use Rattle.std.specs.Prelude.{◌≡◌, set};
 ghost use Rattle.reconstructor_segments.specs.Segments.{last_place, last_segment, relast};
 

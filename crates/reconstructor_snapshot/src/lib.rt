@@ -1,4 +1,6 @@
 // A snapshot's orders as rows, and its validation: 10 to 14.
+#![tactic(auto)]
+
 ghost use Rattle.std.specs.Prelude.{◌≡◌, cond, ◌+◌, ◌≤◌, ltb};
 ghost use Rattle.book.specs.Line.{rests, has_level};
 ghost use Rattle.book.specs.Rows.{Lent, most_rows, rows_of, line_of, id_of, side_of, stored, snapshot_kind, snapshot_row};

@@ -1,5 +1,7 @@
 // The state of a reconstruction, by value: rules, status, counts, and how many rows and segment records are in use. The rows and the segment list are lent
 // beside it.
+#![tactic(auto)]
+
 ghost use Rattle.std.specs.Prelude.{◌≡◌};
 ghost use Rattle.reconstructor_counts.specs.Counts.{counted};
 ghost use Rattle.reconstructor_state.specs.State.{ceiling, limited_rules, new_book, with_counts, with_status, segment_of};
@@ -10,7 +12,7 @@ use reconstructor_counts::{Counter, MessageCounts};
 use reconstructor_segments::SegmentName;
 
 // What a size decrease does to an order's place in its queue.
-#[derive(Drop)]
+#[derive(Clone, Copy)]
 pub enum SizeDecrease {
     // It keeps its place. A declared assumption, not a fact the feed documents.
     KeepsPriority,
@@ -19,7 +21,7 @@ pub enum SizeDecrease {
 }
 
 // The venue rules and limits the reconstruction runs under.
-#[derive(Drop)]
+#[derive(Clone, Copy)]
 pub struct VenueRules {
     pub size_decrease: SizeDecrease,
     // Most resting orders held.
@@ -51,7 +53,7 @@ impl VenueRules {
     }
 }
 
-#[derive(Drop)]
+#[derive(Clone, Copy)]
 pub enum Status {
     // No snapshot yet.
     Empty,
@@ -62,7 +64,7 @@ pub enum Status {
 }
 
 // Rebuilds the visible book of one product from a snapshot and its sequenced messages. The rows and the segment list are lent at each call.
-#[derive(Drop)]
+#[derive(Clone, Copy)]
 pub struct BookReconstructor {
     pub product_id: ProductId,
     pub rules: VenueRules,

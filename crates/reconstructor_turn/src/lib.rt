@@ -1,4 +1,6 @@
 // A message's turn in a valid book: 20 to 44, which end the segment, or the commit step.
+#![tactic(auto)]
+
 ghost use Rattle.std.specs.Prelude.{◌≡◌};
 ghost use Rattle.book.specs.Rows.{rows_of};
 ghost use Rattle.book.specs.Memory.{memory};

@@ -1,4 +1,6 @@
 // The turn of a message: 20, 21 and 22 of its sequence, then the plan of its event.
+#![tactic(auto)]
+
 ghost use Rattle.book.specs.Rows.{rows_of};
 ghost use Rattle.book.specs.Memory.{memory, line_in};
 ghost use Rattle.book_index.specs.Index.{Indexed};

@@ -1,4 +1,6 @@
 // What a message in turn leaves of the state: it is accepted, or it ends the segment.
+#![tactic(auto)]
+
 ghost use Rattle.std.specs.Prelude.{◌≡◌};
 ghost use Rattle.reconstructor.specs.Applied.{invalidated_reply, accepted_reply};
 

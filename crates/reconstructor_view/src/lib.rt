@@ -1,4 +1,6 @@
 // Whether a book may be read, and why not; the answers of the reads whose answer is a value.
+#![tactic(auto)]
+
 ghost use Rattle.std.specs.Prelude.{◌≡◌, ◌≤◌};
 ghost use Rattle.book.specs.Rows.{most_rows};
 ghost use Rattle.book.specs.Memory.{memory};
@@ -15,7 +17,7 @@ use reconstructor_segments::Segment;
 use reconstructor_state::{BookReconstructor, Status};
 
 // Why no valid book is available: 1, 2, 3, 15, 18.
-#[derive(Drop)]
+#[derive(Clone, Copy)]
 pub enum ViewError {
     Unusable(StateError),
     // No snapshot yet.
@@ -25,32 +27,32 @@ pub enum ViewError {
 }
 
 // A valid book's last sequence.
-#[derive(Drop)]
+#[derive(Clone, Copy)]
 pub enum SequenceAnswer {
     Valid { last_seq: u64 },
     Refused(ViewError),
 }
 
-#[derive(Drop)]
+#[derive(Clone, Copy)]
 pub enum BestAnswer {
     Prices { bid: BestPrice, ask: BestPrice },
     Refused(ViewError),
 }
 
-#[derive(Drop)]
+#[derive(Clone, Copy)]
 pub enum Audited {
     Found(AuditAnswer),
     Refused(ViewError),
 }
 
 // The invalidation in force, if any.
-#[derive(Drop)]
+#[derive(Clone, Copy)]
 pub enum InvalidationAnswer {
     InForce(Invalidation),
     NotInvalid,
 }
 
-#[derive(Drop)]
+#[derive(Clone, Copy)]
 pub enum SegmentAnswer {
     Record(Segment),
     // The book has no segment at that place, or the list lent is too short for it.

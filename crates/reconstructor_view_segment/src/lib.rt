@@ -1,4 +1,6 @@
 // The read of a segment's record, by its place in the list.
+#![tactic(auto)]
+
 ghost use Rattle.std.specs.Prelude.{◌≡◌};
 ghost use Rattle.reconstructor_view.specs.ValueReads.{records_to, segment_read_to, segment_read};
 ghost use Rattle.reconstructor_view.specs.Numbers.{segment_told};

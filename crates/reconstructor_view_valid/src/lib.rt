@@ -1,4 +1,6 @@
 // The reads of a valid book whose answer is a value: `last_sequence`, `best`, `audit`. `F_under` is `F` under any ceiling.
+#![tactic(auto)]
+
 ghost use Rattle.std.specs.Prelude.{◌≡◌, false, ◌≤◌};
 ghost use Rattle.book.specs.Rows.{most_rows};
 ghost use Rattle.book.specs.Memory.{memory};

@@ -1,11 +1,13 @@
 // A recorded call: its header, and words of its payload. Bytes that are not there are read as 0.
+#![tactic(auto)]
+
 ghost use Rattle.std.specs.Prelude.{◌≡◌, ◌<◌, ◌≤◌, min, get_or};
 ghost use Rattle.recorded.specs.Format.{half_at, word_at, header_of, loaded};
 
 // Bytes of a header.
 pub const HEADER_BYTES: usize = 32;
 
-#[derive(Drop)]
+#[derive(Clone, Copy)]
 pub struct Header {
     pub operation: u64,
     pub voice: u64,

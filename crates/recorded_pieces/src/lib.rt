@@ -1,4 +1,6 @@
 // A recorded message piece, read and then applied or stepped.
+#![tactic(auto)]
+
 ghost use Rattle.std.specs.Prelude.{◌≡◌};
 ghost use Rattle.host_calls.specs.Calls.{called, step_called};
 ghost use Rattle.recorded_pieces.specs.Pieces.{piece_call, piece_step};

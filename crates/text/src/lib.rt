@@ -1,4 +1,6 @@
 // Text in bytes, written into a slice from a place on: bytes as they are, and numbers in decimal digits, each behind a space.
+#![tactic(auto)]
+
 ghost use Rattle.std.specs.Prelude.{◌≡◌, ◌∷◌, map, ◌+◌, ◌*◌, ◌≤◌, length};
 ghost use Rattle.text.specs.Decimal.{decimal, most_digits};
 ghost use Rattle.text.specs.Decimal.{digit as Decimal·digit};

@@ -1,6 +1,8 @@
 // Makes the recorded calls of standard input on one book, and prints a line for each: whose answer is recorded, the call, the number that it answers, the
 // values that it gives, and after ';' digests of the memory that it may write. specs/Format.antt of crate `recorded` says how a call is recorded. The calls and the lines
 // in `stdin` and `stdout` beside this folder were made from the Rust by `oracle vectors` (tools/oracle).
+#![tactic(auto)]
+
 mod calls;
 mod memory;
 mod print;

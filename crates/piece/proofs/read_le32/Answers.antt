@@ -1,0 +1,11 @@
+use native.Mathlib.Omega.{arith}
+use borrow.Author.Rules.{rules}
+use Rattle.piece.specs.Bytes.{little}
+use Rattle.piece.proofs.Parts.{part_four}
+use Rattle.piece.proofs.read_le32.Goals as goal
+
+pub returns : goal.returns
+unfolding little
+returns c =
+    let e = part_four c.args.s.now c.args.at c.requires in
+    (rw e (omega arith), omega arith)

@@ -1,0 +1,7 @@
+use borrow.Author.Rules.{rules}
+use Rattle.piece.specs.Piece.{zero_unless}
+use Rattle.piece.proofs.zero_unless.Goals as goal
+
+pub returns : goal.returns
+unfolding zero_unless
+returns c = rw c.read_le64.ensures

@@ -1,0 +1,24 @@
+-- The loop keeps what the text comes to: the numbers that are left, written from the next place on, give what all of them give (`rest-next`).
+use native.Mathlib.Nat.{add-zero}
+use native.Mathlib.Numerals.{add-one}
+use mathlib.Core.List.{map, ◌∷◌}
+use lib.ListN.{length, get_or, drop, drop_of_length-le}
+use Prim.Native.Nat.{◌≤◌, ◌+◌, ◌*◌, ◌-◌}
+use native.Mathlib.Omega.{arith}
+use mathlib.Core.Path.{◌≡◌, refl, sym, ◌∙◌}
+use lib.Seq.{sets, drop-cons}
+use borrow.Author.Rules.{rules}
+use Rattle.text.specs.Decimal.{decimal}
+use Rattle.text.specs.Lines.{spaced, most_spaced}
+use Rattle.text.proofs.Texts.{rest-next}
+use Rattle.text.proofs.put_numbers.Given as goal
+
+abbrev pub invariant-loop-i : goal.invariant-loop-i
+invariant-loop-i l =
+    (l.i ≤ length l.numbers)
+    × ((sets l.text l.place (spaced (map decimal (drop l.i l.numbers))) ≡ sets l.initial.text l.at (spaced (map decimal l.numbers)))
+    × (l.place + length (spaced (map decimal (drop l.i l.numbers))) ≡ l.at + length (spaced (map decimal l.numbers))))
+    × (l.place ≤ l.at + most_spaced * l.i) × (length l.text ≡ length l.initial.text)
+
+abbrev pub decreases-loop-i : goal.decreases-loop-i
+decreases-loop-i l = length l.numbers - l.i
