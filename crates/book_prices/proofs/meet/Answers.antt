@@ -1,0 +1,4 @@
+use Rattle.book_prices.proofs.meet.Goals as goal
+
+pub returns : goal.returns
+returns c = rw (c.in-Price.is, c.in-Price-ask.is)
