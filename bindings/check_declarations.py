@@ -1,5 +1,5 @@
 #!/usr/bin/env python3
-"""Compares the exported functions of crate `host` with their declarations for C and Rust, and the named words with the definitions.
+"""Compares the exported functions of crate `host_c` with their declarations for C and Rust, and the named words with the definitions.
 
     check_declarations.py [ROOT]
 
@@ -13,7 +13,7 @@ import sys
 from pathlib import Path
 
 ROOT = Path(sys.argv[1] if len(sys.argv) > 1 else Path(__file__).resolve().parent.parent)
-HOST = "crates/host/src/lib.rt"
+HOST = "crates/host_c/src/lib.rt"
 HEADER = "include/pinuglaw.h"
 SYS = "bindings/rust/src/sys.rs"
 SCOPE = "docs/01-scope.md"
@@ -36,8 +36,8 @@ def parameters(text):
 
 
 def exported():
-    """Function name to its parameters and its answer, as crate `host` writes them."""
-    pattern = r'#\[no_mangle\]\s*pub extern "C" fn (\w+)\((.*?)\)\s*->\s*(\w+)'
+    """Function name to its parameters and its answer, as crate `host_c` writes them."""
+    pattern = r'#\[unsafe\(no_mangle\)\]\s*pub extern "C" fn (\w+)\((.*?)\)\s*->\s*(\w+)'
     found = re.findall(pattern, read(HOST), re.S)
     return {name: (parameters(inside), answer) for name, inside, answer in found}
 
@@ -129,28 +129,28 @@ def defined(prefix, file, function, index):
 
 
 def state_words():
-    return defined("STATE", "crates/host_words/specs/Block.antt", "countsOf", r"«?(\w+)»? = getD ws (\d+) 0")
+    return defined("STATE", "crates/host_words/specs/Block.antt", "counts_of", r"(\w+) = get_or ws (\d+) 0")
 
 
 def segment_words():
-    return defined("SEGMENT", "crates/host_records/specs/Records.antt", "recordAt", r"«?(\w+)»? = getD ws \(recordWords \* i(?: \+ (\d+))?\) 0")
+    return defined("SEGMENT", "crates/host_records/specs/Records.antt", "record_at", r"(\w+) = get_or ws \(record_words \* i(?: \+ (\d+))?\) 0")
 
 
 # A size or bound of the header: the file and name in the code, and those in the definitions.
 SIZES = {
     "CEILING": ("reconstructor_state/src/lib.rt", "CEILING", "reconstructor_state/specs/State.antt", "ceiling"),
-    "ROW_WORDS": ("book/src/lib.rt", "ROW_WORDS", "book/specs/Rows.antt", "rowWords"),
-    "SEGMENT_WORDS": ("host_records/src/lib.rt", "RECORD_WORDS", "host_records/specs/Records.antt", "recordWords"),
-    "STATE_WORDS": ("host_words/src/lib.rt", "STATE_WORDS", "host_words/specs/Block.antt", "stateWords"),
-    "MESSAGE_WORDS": ("piece/src/lib.rt", "MESSAGE_WORDS", "piece/specs/Words.antt", "messageWords"),
-    "HANDSHAKE_WORDS": ("host_handshake/src/lib.rt", "HANDSHAKE_WORDS", "host_handshake/specs/HandshakeWords.antt", "handshakeWords"),
-    "ESTIMATE_WORDS": ("host_estimate_words/src/lib.rt", "ESTIMATE_WORDS", "host_estimate_words/specs/Estimates.antt", "estimateWords"),
-    "QUEUE_WORDS": ("book_queue/src/lib.rt", "QUEUE_WORDS", "book_queue/specs/Queue.antt", "entryWidth Queue"),
-    "AHEAD_WORDS": ("book_queue/src/lib.rt", "AHEAD_ENTRY_WORDS", "book_queue/specs/Queue.antt", "entryWidth Ahead"),
-    "PROFILE_WORDS": ("reconstructor_reads/src/lib.rt", "PROFILE_WORDS", "reconstructor_reads/specs/LevelReads.antt", "profileWords"),
-    "L2_WORDS": ("reconstructor_reads/src/lib.rt", "L2_WORDS", "reconstructor_reads/specs/LevelReads.antt", "l2Words"),
-    "DAY_FILE_BYTES": ("daybook_file/src/lib.rt", "DAY_BYTES", "daybook_file/specs/DayFile.antt", "dayBytes"),
-    "LISTING_BYTES": ("daybook/src/lib.rt", "LISTING_BYTES", "daybook_lines/specs/Most.antt", "listingBytes"),
+    "ROW_WORDS": ("book/src/lib.rt", "ROW_WORDS", "book/specs/Rows.antt", "row_words"),
+    "SEGMENT_WORDS": ("host_records/src/lib.rt", "RECORD_WORDS", "host_records/specs/Records.antt", "record_words"),
+    "STATE_WORDS": ("host_words/src/lib.rt", "STATE_WORDS", "host_words/specs/Block.antt", "state_words"),
+    "MESSAGE_WORDS": ("piece/src/lib.rt", "MESSAGE_WORDS", "piece/specs/Words.antt", "message_words"),
+    "HANDSHAKE_WORDS": ("host_handshake/src/lib.rt", "HANDSHAKE_WORDS", "host_handshake/specs/HandshakeWords.antt", "handshake_words"),
+    "ESTIMATE_WORDS": ("host_estimate_words/src/lib.rt", "ESTIMATE_WORDS", "host_estimate_words/specs/Estimates.antt", "estimate_words"),
+    "QUEUE_WORDS": ("book_queue/src/lib.rt", "QUEUE_WORDS", "book_queue/specs/Queue.antt", "entry_width Queue"),
+    "AHEAD_WORDS": ("book_queue/src/lib.rt", "AHEAD_ENTRY_WORDS", "book_queue/specs/Queue.antt", "entry_width Ahead"),
+    "PROFILE_WORDS": ("reconstructor_reads/src/lib.rt", "PROFILE_WORDS", "reconstructor_reads/specs/LevelReads.antt", "profile_words"),
+    "L2_WORDS": ("reconstructor_reads/src/lib.rt", "L2_WORDS", "reconstructor_reads/specs/LevelReads.antt", "l2_words"),
+    "DAY_FILE_BYTES": ("daybook_file/src/lib.rt", "DAY_BYTES", "daybook_file/specs/DayFile.antt", "day_bytes"),
+    "LISTING_BYTES": ("daybook/src/lib.rt", "LISTING_BYTES", "daybook_lines/specs/Most.antt", "listing_bytes"),
 }
 
 # Those that the oracle names for itself, since its model is written from the paper alone.
@@ -166,9 +166,9 @@ ORACLE = {
 # The index and an estimate's list hold as many orders as the ceiling admits. A bound that parts from the ceiling leaves this table.
 AS_THE_CEILING = [
     ("crates/book/src/lib.rt", r"const MOST_ROWS: \w+ = ([\d_]+);"),
-    ("crates/book/specs/Rows.antt", r"^mostRows = (\d+)"),
+    ("crates/book/specs/Rows.antt", r"^most_rows = (\d+)"),
     ("crates/queue_ahead/src/lib.rt", r"const LIST_BOUND: \w+ = ([\d_]+);"),
-    ("crates/queue/specs/Estimates.antt", r"^listBound = (\d+)"),
+    ("crates/queue/specs/Estimates.antt", r"^list_bound = (\d+)"),
 ]
 
 

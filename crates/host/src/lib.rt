@@ -29,8 +29,7 @@ ghost use Rattle.host_estimates.specs.Estimates.{estimate_called, estimate_call,
 use book_valid::rows_broken;
 
 // Reads a message piece into 21 words: kind, product (two), sequence, time, then the event's fields.
-#[unsafe(no_mangle)]
-pub extern "C" fn pinuglaw_read_message(bytes: &[u8], out: &mut [u64]) -> u64
+pub fn pinuglaw_read_message(bytes: &[u8], out: &mut [u64]) -> u64
     ensures number { result ≡ message_number out.old (read_message bytes.now) }
     ensures words { out.new ≡ message_out out.old (read_message bytes.now) }
 {
@@ -38,8 +37,7 @@ pub extern "C" fn pinuglaw_read_message(bytes: &[u8], out: &mut [u64]) -> u64
 }
 
 // Reads a snapshot piece into 5 words: product (two), sequence, number of bids, number of asks.
-#[unsafe(no_mangle)]
-pub extern "C" fn pinuglaw_read_snapshot(bytes: &[u8], out: &mut [u64]) -> u64
+pub fn pinuglaw_read_snapshot(bytes: &[u8], out: &mut [u64]) -> u64
     ensures number { result ≡ snapshot_number out.old (read_snapshot bytes.now) }
     ensures words { out.new ≡ snapshot_out out.old (read_snapshot bytes.now) }
 {
@@ -47,8 +45,7 @@ pub extern "C" fn pinuglaw_read_snapshot(bytes: &[u8], out: &mut [u64]) -> u64
 }
 
 // Reads the order at a place of a snapshot piece into 4 words: id (two), price, size.
-#[unsafe(no_mangle)]
-pub extern "C" fn pinuglaw_snapshot_order(bytes: &[u8], place: usize, out: &mut [u64]) -> u64
+pub fn pinuglaw_snapshot_order(bytes: &[u8], place: usize, out: &mut [u64]) -> u64
     ensures number { result ≡ order_number out.old }
     ensures words { out.new ≡ order_out out.old (order_at bytes.now place) }
 {
@@ -56,8 +53,7 @@ pub extern "C" fn pinuglaw_snapshot_order(bytes: &[u8], place: usize, out: &mut 
 }
 
 // Whether `n` rows are no book: number 3's part on the rows.
-#[unsafe(no_mangle)]
-pub extern "C" fn pinuglaw_rows_broken(rows: &[u64], n: usize, max_levels: usize) -> bool
+pub fn pinuglaw_rows_broken(rows: &[u64], n: usize, max_levels: usize) -> bool
     ensures { result ≡ words_broken max_levels rows.now n }
 {
     rows_broken(rows, n, max_levels)
@@ -65,8 +61,7 @@ pub extern "C" fn pinuglaw_rows_broken(rows: &[u64], n: usize, max_levels: usize
 
 // Creates a book in the first 27 words of `state`: no snapshot yet. Any limits are taken here: 1 is said by the calls. Answers 0; 4 where `size_decrease` is above 1,
 // then 7 where fewer words are lent, and touches nothing.
-#[unsafe(no_mangle)]
-pub extern "C" fn pinuglaw_new(
+pub fn pinuglaw_new(
     state: &mut [u64],
     product_high: u64,
     product_low: u64,
@@ -91,8 +86,7 @@ pub extern "C" fn pinuglaw_new(
 // Applies a message of 21 words to the book whose state is the first 27 words of `state`; crate `host_words` has both layouts in specs/Block.antt.
 // Answers 256 where the book changed, 0 where the message was applied without effect, else the number that turns it away. Those 27 words are the state afterwards: 16
 // sets the status and ends the segment, 10 and 17 raise a count, any other refusal leaves the words lent.
-#[unsafe(no_mangle)]
-pub extern "C" fn pinuglaw_apply(
+pub fn pinuglaw_apply(
     state: &mut [u64],
     rows: &mut [u64],
     segments: &mut [u64],
@@ -105,8 +99,7 @@ pub extern "C" fn pinuglaw_apply(
 
 // Takes the snapshot piece in `bytes` for that book. Answers 0 or the number that turns it away. Those 27 words are the state afterwards; of a refusal, but for the count
 // that 10 to 14 raise, the words lent.
-#[unsafe(no_mangle)]
-pub extern "C" fn pinuglaw_bootstrap(
+pub fn pinuglaw_bootstrap(
     state: &mut [u64],
     rows: &mut [u64],
     segments: &mut [u64],
@@ -119,8 +112,7 @@ pub extern "C" fn pinuglaw_bootstrap(
 
 // A handshake for the segment that the book is in, into four words; crate `host_handshake` has the layout in specs/HandshakeWords.antt. Before any snapshot it has ended. Answers 0,
 // or 768, 3 or 7.
-#[unsafe(no_mangle)]
-pub extern "C" fn pinuglaw_handshake(state: &[u64], handshake: &mut [u64]) -> u64
+pub fn pinuglaw_handshake(state: &[u64], handshake: &mut [u64]) -> u64
     ensures { answered result handshake.new ≡ handshake_call state.now handshake.old }
 {
     host_new_handshake::new_handshake(state, handshake)
@@ -128,8 +120,7 @@ pub extern "C" fn pinuglaw_handshake(state: &[u64], handshake: &mut [u64]) -> u6
 
 // Steps a handshake by a message of 21 words. Answers as `pinuglaw_apply` does, 512 where the message was dropped, and 9 where the handshake has ended or is
 // of another segment. A refusal leaves what it leaves of `pinuglaw_apply`; 16 and 17 end the handshake.
-#[unsafe(no_mangle)]
-pub extern "C" fn pinuglaw_step(
+pub fn pinuglaw_step(
     state: &mut [u64],
     rows: &mut [u64],
     segments: &mut [u64],
@@ -144,8 +135,7 @@ pub extern "C" fn pinuglaw_step(
 // Applies the messages in `messages`, 21 words each, in turn: what as many calls of `pinuglaw_apply` answer and leave, with the number of each message in a
 // word of `answers`, and the words past those untouched. Words past the last whole message are not read. Answers 0; 1, 2 or 3, and touches nothing, where every
 // message that is one would be told so; then 7, and touches nothing, where there are fewer answer words than messages.
-#[unsafe(no_mangle)]
-pub extern "C" fn pinuglaw_apply_all(
+pub fn pinuglaw_apply_all(
     state: &mut [u64],
     rows: &mut [u64],
     segments: &mut [u64],
@@ -159,8 +149,7 @@ pub extern "C" fn pinuglaw_apply_all(
 
 // Replays the day file in `file` on a book of its own, and writes the listing of its segments at the front of `listing`. Answers the listing's length, which is
 // at most 8,192 and never 7; or 7, and touches nothing, where the slice is shorter. A file that breaks the format's rules or is longer than 65,536 bytes is listed as 60.
-#[unsafe(no_mangle)]
-pub extern "C" fn pinuglaw_replay(file: &[u8], listing: &mut [u8]) -> u64
+pub fn pinuglaw_replay(file: &[u8], listing: &mut [u8]) -> u64
     ensures listing_after { replay_called result listing.new ≡ replay_call file.now listing.old }
     ensures bounded { length (Listing·listing file.now) ≤ listing_bytes }
     ensures told { 7 < length (Listing·listing file.now) }
@@ -172,24 +161,21 @@ pub extern "C" fn pinuglaw_replay(file: &[u8], listing: &mut [u8]) -> u64
 // count or a sequence, 4 for the best prices, 6 for an invalidation, 10 for a segment.
 
 // The last sequence applied, into one word.
-#[unsafe(no_mangle)]
-pub extern "C" fn pinuglaw_last_sequence(state: &[u64], rows: &[u64], out: &mut [u64]) -> u64
+pub fn pinuglaw_last_sequence(state: &[u64], rows: &[u64], out: &mut [u64]) -> u64
     ensures { answered result out.new ≡ last_call state.now rows.now out.old }
 {
     host_views::last_sequence(state, rows, out)
 }
 
 // The best bid and ask, into four words: whether there is one, and its price, of each.
-#[unsafe(no_mangle)]
-pub extern "C" fn pinuglaw_best(state: &[u64], rows: &[u64], out: &mut [u64]) -> u64
+pub fn pinuglaw_best(state: &[u64], rows: &[u64], out: &mut [u64]) -> u64
     ensures { answered result out.new ≡ best_call state.now rows.now out.old }
 {
     host_views::best(state, rows, out)
 }
 
 // The audit of a valid book.
-#[unsafe(no_mangle)]
-pub extern "C" fn pinuglaw_audit(state: &[u64], rows: &[u64]) -> u64
+pub fn pinuglaw_audit(state: &[u64], rows: &[u64]) -> u64
     ensures { result ≡ audit_call state.now rows.now }
 {
     host_views::audit(state, rows)
@@ -197,8 +183,7 @@ pub extern "C" fn pinuglaw_audit(state: &[u64], rows: &[u64]) -> u64
 
 // The invalidation in force, into six words: last_good_seq, first_offending_seq, the reason's number, and its words 10 to 12 of a state. Answers 256, writing
 // nothing, where the book is not invalid.
-#[unsafe(no_mangle)]
-pub extern "C" fn pinuglaw_invalidation(state: &[u64], out: &mut [u64]) -> u64
+pub fn pinuglaw_invalidation(state: &[u64], out: &mut [u64]) -> u64
     ensures { answered result out.new ≡ invalidation_call state.now out.old }
 {
     host_views_segment::invalidation(state, out)
@@ -206,8 +191,7 @@ pub extern "C" fn pinuglaw_invalidation(state: &[u64], out: &mut [u64]) -> u64
 
 // The record of the segment at a place of the list, into ten words: its eight, its elapsed time, and how many messages it accepted. Answers 256, writing
 // nothing, where the book has none there or the list is too short for it.
-#[unsafe(no_mangle)]
-pub extern "C" fn pinuglaw_segment(
+pub fn pinuglaw_segment(
     state: &[u64],
     segments: &[u64],
     place: usize,
@@ -219,8 +203,7 @@ pub extern "C" fn pinuglaw_segment(
 }
 
 // The orders at a side (0 buy, 1 sell) and price (an amount's bits), five words each, and their number.
-#[unsafe(no_mangle)]
-pub extern "C" fn pinuglaw_level_queue(
+pub fn pinuglaw_level_queue(
     state: &[u64],
     rows: &[u64],
     scratch: &mut [u64],
@@ -235,8 +218,7 @@ pub extern "C" fn pinuglaw_level_queue(
 }
 
 // The levels of a side, three words each, and their number.
-#[unsafe(no_mangle)]
-pub extern "C" fn pinuglaw_priority_profile(
+pub fn pinuglaw_priority_profile(
     state: &[u64],
     rows: &[u64],
     scratch: &mut [u64],
@@ -250,8 +232,7 @@ pub extern "C" fn pinuglaw_priority_profile(
 }
 
 // The levels of a side, two words each, and their number.
-#[unsafe(no_mangle)]
-pub extern "C" fn pinuglaw_l2(
+pub fn pinuglaw_l2(
     state: &[u64],
     rows: &[u64],
     scratch: &mut [u64],
@@ -265,8 +246,7 @@ pub extern "C" fn pinuglaw_l2(
 }
 
 // The same of a book that is invalid; 256 of one that is not.
-#[unsafe(no_mangle)]
-pub extern "C" fn pinuglaw_stale_l2(
+pub fn pinuglaw_stale_l2(
     state: &[u64],
     rows: &[u64],
     scratch: &mut [u64],
@@ -280,8 +260,7 @@ pub extern "C" fn pinuglaw_stale_l2(
 }
 
 // An estimate for an order created now at a side and price, into eight words, and the orders ahead of it, three words each.
-#[unsafe(no_mangle)]
-pub extern "C" fn pinuglaw_queue_estimate(
+pub fn pinuglaw_queue_estimate(
     state: &[u64],
     rows: &[u64],
     side: u64,
@@ -295,8 +274,7 @@ pub extern "C" fn pinuglaw_queue_estimate(
 }
 
 // An estimate for our own order, into eight words.
-#[unsafe(no_mangle)]
-pub extern "C" fn pinuglaw_queue_estimate_own(
+pub fn pinuglaw_queue_estimate_own(
     state: &[u64],
     rows: &[u64],
     id_high: u64,
@@ -309,8 +287,7 @@ pub extern "C" fn pinuglaw_queue_estimate_own(
 }
 
 // The volume ahead of an estimate, into seven words.
-#[unsafe(no_mangle)]
-pub extern "C" fn pinuglaw_volume_ahead(
+pub fn pinuglaw_volume_ahead(
     state: &[u64],
     rows: &[u64],
     estimate: &[u64],
