@@ -1,10 +1,9 @@
 -- The loop keeps `out` with the first `i` of the words pasted from `at` on: a write is one word more (`paste-suc`), and all of them are the splice.
-use Prim.Native.Nat.{◌≤◌, ◌-◌}
 use native.Mathlib.Omega.{arith}
 use native.Mathlib.Numerals.{add-one}
 use mathlib.Core.Path.{◌≡◌, refl}
 use lib.ListN.{length, length-set}
-use lib.Seq.{paste, paste-zero, paste-suc, take-length}
+use lib.Seq.{paste-zero, paste-suc, take-length}
 use borrow.Author.Rules.{rules}
 use Rattle.laws.proofs.put.Goals as goal
 

@@ -1,4 +1,3 @@
-use borrow.Author.Rules.{rules}
 use mir.Facts.{to_z-of_z}
 use Rattle.message.proofs.Signed.{in-range, below_range}
 use Rattle.message_range.proofs.in_range.Goals as goal

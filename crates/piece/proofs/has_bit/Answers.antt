@@ -1,5 +1,4 @@
 use mathlib.Core.Path.{refl}
-use borrow.Author.Rules.{rules}
 use Rattle.piece.specs.Piece.{has_bit}
 use Rattle.piece.proofs.has_bit.Goals as goal
 

@@ -1,4 +1,3 @@
-use borrow.Author.Rules.{rules}
 use Rattle.piece.specs.Piece.{amount_at}
 use Rattle.message.proofs.Signed.{back}
 use Rattle.piece.proofs.read_amount.Goals as goal

@@ -1,5 +1,4 @@
 use native.Mathlib.Omega.{arith}
-use borrow.Author.Rules.{rules}
 use Rattle.piece.specs.Bytes.{little, big}
 use Rattle.piece.proofs.Parts.{part_four}
 use Rattle.piece.proofs.read_be32.Goals as goal

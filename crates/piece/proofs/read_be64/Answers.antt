@@ -1,5 +1,4 @@
 use native.Mathlib.Omega.{arith}
-use borrow.Author.Rules.{rules}
 use Rattle.piece.proofs.Parts.{big-halves}
 use Rattle.piece.proofs.read_be64.Goals as goal
 

@@ -1,5 +1,4 @@
 use native.Mathlib.Omega.{arith}
-use borrow.Author.Rules.{rules}
 use Rattle.piece.specs.Piece.{word_at}
 use Rattle.piece.proofs.Parts.{little-halves}
 use Rattle.piece.proofs.read_le64.Goals as goal

@@ -1,4 +1,3 @@
-use borrow.Author.Rules.{rules}
 use Rattle.piece.specs.Piece.{optional_at}
 use Rattle.message.proofs.Signed.{back}
 use Rattle.piece.proofs.read_optional.Goals as goal

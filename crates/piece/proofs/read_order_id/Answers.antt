@@ -1,4 +1,3 @@
-use borrow.Author.Rules.{rules}
 use Rattle.piece.specs.Piece.{order_id_at}
 use Rattle.piece.proofs.read_order_id.Goals as goal
 

@@ -3,7 +3,6 @@ use Prim.Native.Nat.{◌-◌}
 use mir.Syntax.{w64}
 use mir.Val.{to_z}
 use native.Mathlib.Omega.{arith}
-use borrow.Author.Rules.{rules}
 use Rattle.piece.proofs.signed.Goals as goal
 
 pub returns-else-word-lt9223372036854775808 : goal.returns-else-word-lt9223372036854775808

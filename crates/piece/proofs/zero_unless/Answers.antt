@@ -1,4 +1,3 @@
-use borrow.Author.Rules.{rules}
 use Rattle.piece.specs.Piece.{zero_unless}
 use Rattle.piece.proofs.zero_unless.Goals as goal
 

@@ -1,10 +1,8 @@
 -- The loop keeps what the text comes to: the bytes that are left, set from the next place on, give what all of them give.
-use Prim.Native.Nat.{◌≤◌, ◌+◌, ◌-◌}
 use native.Mathlib.Nat.{add-zero}
 use native.Mathlib.Omega.{arith}
 use mathlib.Core.Path.{◌≡◌, refl, sym, ◌∙◌}
-use lib.ListN.{length, drop, length-set, drop_of_length-le}
-use lib.Seq.{sets}
+use lib.ListN.{length, length-set, drop_of_length-le}
 use borrow.Author.Rules.{rules}
 use Rattle.text.proofs.Texts.{sets-next}
 use Rattle.text.proofs.put_bytes.Goals as goal

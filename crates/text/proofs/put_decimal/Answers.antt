@@ -2,12 +2,11 @@
 -- (`digits-next`). The last digit makes them whole (`digits_last`), and there is room, since a 64-bit number has at most twenty (`decimal-short`).
 use Prim.Native.Nat.{◌-◌}
 use native.Mathlib.Omega.{arith}
-use mathlib.Core.Path.{◌≡◌, refl, sym}
+use mathlib.Core.Path.{refl, sym}
 use mathlib.Core.List.{append-nil}
-use lib.ListN.{length, length-set}
-use borrow.Author.Rules.{rules}
+use lib.ListN.{length-set}
 use Rattle.text.specs.Decimal.{decimal, most_digits}
-use Rattle.text.proofs.Decimals.{decimal-short, SetDown, one_left, digits-next, digits_last}
+use Rattle.text.proofs.Decimals.{decimal-short, one_left, digits-next, digits_last}
 use Rattle.text.proofs.put_decimal.Goals as goal
 
 pub loop-rest-init : goal.loop-rest-init

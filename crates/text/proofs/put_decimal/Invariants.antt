@@ -1,13 +1,9 @@
 -- The loop keeps that the digits of what is left, and then those that are set down, are the number's (`SetDown`): a turn sets down the ones of what is left
 -- (`digits-next`). The last digit makes them whole (`digits_last`), and there is room, since a 64-bit number has at most twenty (`decimal-short`).
-use Prim.Native.Nat.{◌-◌}
-use native.Mathlib.Omega.{arith}
-use mathlib.Core.Path.{◌≡◌, refl, sym}
-use mathlib.Core.List.{append-nil}
-use lib.ListN.{length, length-set}
-use borrow.Author.Rules.{rules}
-use Rattle.text.specs.Decimal.{decimal, most_digits}
-use Rattle.text.proofs.Decimals.{decimal-short, SetDown, one_left, digits-next, digits_last}
+use mathlib.Core.Path.{◌≡◌}
+use lib.ListN.{length}
+use Rattle.text.specs.Decimal.{most_digits}
+use Rattle.text.proofs.Decimals.{SetDown}
 use Rattle.text.proofs.put_decimal.Given as goal
 
 abbrev pub invariant-loop-rest : goal.invariant-loop-rest

@@ -2,14 +2,14 @@
 use native.Mathlib.Nat.{add-zero}
 use native.Mathlib.Numerals.{add-one}
 use mathlib.Core.List.{map, ◌∷◌}
-use lib.ListN.{length, get_or, drop, drop_of_length-le}
-use Prim.Native.Nat.{◌≤◌, ◌+◌, ◌*◌, ◌-◌}
+use lib.ListN.{get_or, drop, drop_of_length-le}
+use Prim.Native.Nat.{◌+◌}
 use native.Mathlib.Omega.{arith}
 use mathlib.Core.Path.{◌≡◌, refl, sym, ◌∙◌}
-use lib.Seq.{sets, drop-cons}
+use lib.Seq.{drop-cons}
 use borrow.Author.Rules.{rules}
 use Rattle.text.specs.Decimal.{decimal}
-use Rattle.text.specs.Lines.{spaced, most_spaced}
+use Rattle.text.specs.Lines.{spaced}
 use Rattle.text.proofs.Texts.{rest-next}
 use Rattle.text.proofs.put_numbers.Goals as goal
 

@@ -1,16 +1,11 @@
 -- The loop keeps what the text comes to: the numbers that are left, written from the next place on, give what all of them give (`rest-next`).
-use native.Mathlib.Nat.{add-zero}
-use native.Mathlib.Numerals.{add-one}
-use mathlib.Core.List.{map, ◌∷◌}
-use lib.ListN.{length, get_or, drop, drop_of_length-le}
+use mathlib.Core.List.{map}
+use lib.ListN.{length, drop}
 use Prim.Native.Nat.{◌≤◌, ◌+◌, ◌*◌, ◌-◌}
-use native.Mathlib.Omega.{arith}
-use mathlib.Core.Path.{◌≡◌, refl, sym, ◌∙◌}
-use lib.Seq.{sets, drop-cons}
-use borrow.Author.Rules.{rules}
+use mathlib.Core.Path.{◌≡◌}
+use lib.Seq.{sets}
 use Rattle.text.specs.Decimal.{decimal}
 use Rattle.text.specs.Lines.{spaced, most_spaced}
-use Rattle.text.proofs.Texts.{rest-next}
 use Rattle.text.proofs.put_numbers.Given as goal
 
 abbrev pub invariant-loop-i : goal.invariant-loop-i

@@ -1,5 +1,4 @@
 use mathlib.Core.Path.{◌∙◌, ap, sym}
-use borrow.Author.Rules.{rules}
 use Rattle.message.specs.Amounts.{negative}
 use Rattle.message.proofs.Signed.{back}
 use Rattle.message.proofs.Amounts.{differs-below, differs_at}
