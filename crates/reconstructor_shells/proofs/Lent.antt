@@ -5,7 +5,7 @@
 use Prim.Native.Nat.{ℕ}
 use mathlib.Core.List.{List, [], ◌∷◌}
 use seplogic.Ra.Ura.{Ura}
-use seplogic.Ra.TreeShare.{full_share}
+use base.Fraction.{full_share}
 use mir.Syntax.{Ty, Lifetime}
 use mir.Val.{Val}
 use base.Logic.{ent, sep, ex}
@@ -31,14 +31,14 @@ module _ (T : Declared) (L : LL.Laws T) where
   module _ {M : Type 1} {𝓤 : Ura M} (𝓛 : Logic 𝓤) where
     open 𝓛 use {H, A}
 
-    pub lends : (ℓ : Lifetime) (κ : Lft) (h : R.Denot) (l o : ℕ) (v : Val) → ent 𝓤 (sep 𝓤 (H.at full_share τ l o v) (sem 𝓛 (R.own h (v ∷ [])))) (H.⇛ (ex 𝓤 (LentRef 𝓛 R ℓ κ h l o)))
+    pub lends : (ℓ : Lifetime) (κ : Lft) (h : R.Denot) (l o : ℕ) (v : Val) → ent 𝓤 (sep 𝓤 (H.at full_share τ l o v) (sem 𝓛 (R.own_val h (v ∷ [])))) (H.⇛ (ex 𝓤 (LentRef 𝓛 R ℓ κ h l o)))
     unfolding part_of
     lends ℓ κ h l o v =
-        qed 𝓛 (‵ (fat full_share τ l o v) ∷ ‵ (R.own h (v ∷ [])) ∷ []) ∵ use1 𝓛 (‵ (cell_at full_share R.mir (v ∷ []) l o)) (𝓛.laws.at_raw full_share τ l o v) $ fjoin ! $
-        fpack ! (List Val) (λ us. fsep (cell_at full_share R.mir us l o) (R.own h us)) (v ∷ []) $ by ! (lends_ref 𝓛 R ℓ κ h l o)
+        qed 𝓛 (‵ (fat full_share τ l o v) ∷ ‵ (R.own_val h (v ∷ [])) ∷ []) ∵ use1 𝓛 (‵ (cell_at full_share R.mir (v ∷ []) l o)) (𝓛.laws.at_raw full_share τ l o v) $ fjoin ! $
+        fpack ! (List Val) (λ us. fsep (cell_at full_share R.mir us l o) (R.own_val h us)) (v ∷ []) $ by ! (lends_ref 𝓛 R ℓ κ h l o)
 
     pub back : (κ : Lft) (γ : GName) (h : R.Denot) (l o : ℕ)
-        → ent 𝓤 (sep 𝓤 (A.dead κ) (sep 𝓤 (A.lent κ (Body (mem R) l o γ)) (A.res γ (R.coded.code h)))) (H.⇛ (sep 𝓤 (H.at full_share τ l o (LL.val T L h)) (sem 𝓛 (R.own h (LL.vals T L h)))))
+        → ent 𝓤 (sep 𝓤 (A.dead κ) (sep 𝓤 (A.lent κ (Body (mem R) l o γ)) (A.res γ (R.coded.code h)))) (H.⇛ (sep 𝓤 (H.at full_share τ l o (LL.val T L h)) (sem 𝓛 (R.own_val h (LL.vals T L h)))))
     unfolding part_of
     back κ γ h l o =
         qed 𝓛 (‵ (fdead κ) ∷ ‵ (flent κ (Body (mem R) l o γ)) ∷ ‵ (fres γ (R.coded.code h)) ∷ []) ∵ updating ! $ use3 𝓛 (later (‵ ((mem R).own_at h l o))) (ref_back 𝓛 R κ γ h l o) $ await ! tt $
