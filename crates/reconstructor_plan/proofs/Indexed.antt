@@ -12,11 +12,11 @@ use Rattle.message.specs.declared.L3Event.TheVariants.{Received, Open, Done, Mat
 use Rattle.message.specs.Amounts.{nat_of}
 use Rattle.reconstructor_state.specs.declared.VenueRules.{VenueRules}
 use Rattle.book.specs.declared.Decrease.{Decrease}
-use Rattle.book.specs.declared.Decrease.TheVariants.{Marked}
+use Rattle.book.specs.declared.Decrease.TheVariants.{Unmarked, Marked}
 use Rattle.book.specs.declared.Resting.{Resting}
 use Rattle.book.specs.Line.{Entry, find}
 use Rattle.book.specs.Rows.{line_of, reduced, observed_row}
-use Rattle.book.specs.Memory.{Effect, keep, cut_to, orders_by}
+use Rattle.book.specs.Memory.{keep, cut_to, orders_by}
 use Rattle.book_index.specs.declared.Bounds.{Bounds}
 use Rattle.book_index.specs.Index.{bounded, row_marked, row_bounded, all, Foreseen, noted}
 use Rattle.reconstructor_plan.specs.Rules.{entry_for, size_given, done_effect, match_effect, change_effect, effect}
@@ -41,17 +41,17 @@ module _ (f : Resting → Bool) (same : (o : Resting) (r : ℕ) (mark : Decrease
     where
       go : (o : Option Entry) → all f (orders_by (done_effect d o) os) ≡ true
       go none = h
-      go (some e) = all_cut f same d 0 _ os h
+      go (some e) = all_cut f same d 0 Unmarked os h
   event_all (Match m t s p q) j = go (find m (line_of os))
     where
       go : (o : Option Entry) → all f (orders_by (match_effect m o (nat_of q)) os) ≡ true
       go none = h
-      go (some e) = all_cut f same m (e.remaining - nat_of q) _ os h
+      go (some e) = all_cut f same m (e.remaining - nat_of q) Unmarked os h
   event_all (Change d s why p old_size new_size old_price new_price funds) j = go (find d (line_of os))
     where
       noop : (b : Bool) → all f (orders_by (cond b keep (cut_to d (size_given new_size) (Marked seq))) os) ≡ true
       noop true = h
-      noop false = all_cut f same d (size_given new_size) _ os h
+      noop false = all_cut f same d (size_given new_size) (Marked seq) os h
 
       go : (o : Option Entry) → all f (orders_by (change_effect seq d o (size_given new_size)) os) ≡ true
       go none = h

@@ -26,7 +26,7 @@ use Rattle.book.specs.declared.Found.TheVariants.{At, Nothing}
 use Rattle.book.specs.declared.Resting.{Resting}
 use Rattle.book.specs.Line.{Entry, find, has_level, levels, would_cross}
 use Rattle.book.specs.Rows.{row_at, rows_of, line_of, entry_of, find_row, cut_rows, observed_kind, observed_row}
-use Rattle.book.specs.Memory.{Effect, keep, cut_to, orders_by}
+use Rattle.book.specs.Memory.{keep, cut_to, orders_by}
 use Rattle.reconstructor_state.specs.declared.VenueRules.{VenueRules}
 use Rattle.reconstructor_plan.specs.Rules.{entry_for, open_refusal, change_refusal, size_refusal, size_given, done_effect, match_effect, change_effect, event_refusal, effect}
 use Rattle.book.proofs.Stored.{found_at, found_none}

@@ -14,7 +14,6 @@ use Rattle.message.specs.declared.L3Event.{L3Event}
 use Rattle.message.specs.declared.L3Event.TheVariants.{Received, Open, Done, Match, Change, Unsupported}
 use Rattle.message.specs.Same.{same_side}
 use Rattle.message.specs.Amounts.{nat_of, negative, differs, given_differs, absent_or_differs}
-use Rattle.book.specs.declared.Decrease.{Decrease}
 use Rattle.book.specs.declared.Decrease.TheVariants.{Unmarked, Marked}
 use Rattle.book.specs.Line.{Entry, find, rests, has_level, levels, would_cross}
 use Rattle.book.specs.Memory.{Effect, keep, join, cut_to, snapshot}
