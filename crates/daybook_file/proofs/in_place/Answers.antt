@@ -36,8 +36,5 @@ loop-i-preserved c =
     let f = c.args.file.now in
     (c.loop-i-test.true, c.loop-i.invariant.1 ∙ order-next f c.args.count c.loop-i.i c.loop-i-test.true ∙ rw (← c.before_next.ensures, c.if-not-before_next.false))
 
-pub piece_end-requires : goal.piece_end-requires
-piece_end-requires c = omega (arith, c.loop-i.invariant.0, c.requires)
-
 pub returns : goal.returns
-returns c = rw c.piece_end.ensures (sym (c.loop-i.invariant.1 ∙ order-last c.args.file.now c.args.count c.loop-i.i c.loop-i-test.false))
+returns c = let e = c.loop-i.invariant.1 ∙ order-last c.args.file.now c.args.count c.loop-i.i c.loop-i-test.false in cc
