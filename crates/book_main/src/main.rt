@@ -7,27 +7,28 @@ ghost use Rattle.std.specs.Prelude.{◌<◌};
 use book::{BestPrice, Decrease, Found, Resting};
 use book_valid::AuditAnswer;
 use message::{L3Side, OrderId};
+use std::io::{self, Stdout};
 
-fn text(s: &[u8]) {
-    io::write_all(1, s);
+fn text(to: Stdout, s: &[u8]) -> io::Result<()> {
+    to.write_all(s)
 }
 
-fn number(n: u64) {
-    io::write_all(1, b" ");
-    io::print_decimal(1, n);
+fn number(to: Stdout, n: u64) -> io::Result<()> {
+    text(to, b" ")?;
+    to.print(n)
 }
 
 // The first `n` words.
-fn show(words: &[u64], n: usize) {
-    text(b"words");
+fn show(to: Stdout, words: &[u64], n: usize) -> io::Result<()> {
+    text(to, b"words")?;
     let mut i: usize = 0;
     while i < n {
         if i < words.len() {
-            number(words[i]);
+            number(to, words[i])?;
         }
         i += 1;
     }
-    text(b"\n");
+    text(to, b"\n")
 }
 
 fn order(id: u64, price: u64, remaining: u64, kind: u64, entered_at: u64) -> Resting {
@@ -83,72 +84,72 @@ fn remove(rows: &mut [u64], n: usize, i: usize) -> usize {
 }
 
 // The place of an id, or `none`.
-fn find(rows: &[u64], n: usize, id: u64) {
+fn find(to: Stdout, rows: &[u64], n: usize, id: u64) -> io::Result<()> {
     if book_valid::rows_broken(rows, n, book::MOST_ROWS) {
-        return;
+        return Ok(());
     }
-    text(b"find");
+    text(to, b"find")?;
     let id = OrderId { high: 1, low: id };
     match book_search::find(rows, n, id) {
-        Found::At(i) => number(i as u64),
-        Found::Nothing => text(b" none"),
+        Found::At(i) => number(to, i as u64)?,
+        Found::Nothing => text(to, b" none")?,
     }
-    text(b"\n");
+    text(to, b"\n")
 }
 
-fn price(best: BestPrice) {
+fn price(to: Stdout, best: BestPrice) -> io::Result<()> {
     match best {
-        BestPrice::Price(p) => number(p),
-        BestPrice::NoPrice => text(b" none"),
+        BestPrice::Price(p) => number(to, p),
+        BestPrice::NoPrice => text(to, b" none"),
     }
 }
 
 // Best bid and ask; the number of levels, of buys and of sells.
-fn tops(rows: &[u64], n: usize) {
+fn tops(to: Stdout, rows: &[u64], n: usize) -> io::Result<()> {
     if book_valid::rows_broken(rows, n, book::MOST_ROWS) {
-        return;
+        return Ok(());
     }
-    text(b"best");
-    price(book_prices::best_bid(rows, n));
-    price(book_prices::best_ask(rows, n));
-    text(b" levels");
-    number(book_keys::level_count(rows, n) as u64);
-    number(book_keys::side_level_count(rows, n, L3Side::Buy) as u64);
-    number(book_keys::side_level_count(rows, n, L3Side::Sell) as u64);
-    text(b"\n");
+    text(to, b"best")?;
+    price(to, book_prices::best_bid(rows, n))?;
+    price(to, book_prices::best_ask(rows, n))?;
+    text(to, b" levels")?;
+    number(to, book_keys::level_count(rows, n) as u64)?;
+    number(to, book_keys::side_level_count(rows, n, L3Side::Buy) as u64)?;
+    number(to, book_keys::side_level_count(rows, n, L3Side::Sell) as u64)?;
+    text(to, b"\n")
 }
 
-fn yes(b: bool) {
+fn yes(to: Stdout, b: bool) -> io::Result<()> {
     if b {
-        text(b" yes");
+        text(to, b" yes")
     } else {
-        text(b" no");
+        text(to, b" no")
     }
 }
 
 // Whether there is a level at a side and price, and whether an order there would cross.
-fn meets(rows: &[u64], n: usize, side: L3Side, price: u64) {
+fn meets(to: Stdout, rows: &[u64], n: usize, side: L3Side, price: u64) -> io::Result<()> {
     if book_valid::rows_broken(rows, n, book::MOST_ROWS) {
-        return;
+        return Ok(());
     }
-    text(b"level");
-    yes(book_search::has_level(rows, n, side, price));
-    text(b" crosses");
-    yes(book_prices::would_cross(rows, n, side, price));
-    text(b"\n");
+    text(to, b"level")?;
+    yes(to, book_search::has_level(rows, n, side, price))?;
+    text(to, b" crosses")?;
+    yes(to, book_prices::would_cross(rows, n, side, price))?;
+    text(to, b"\n")
 }
 
-fn level(rows: &[u64], n: usize, side: L3Side, price: u64) {
+fn level(to: Stdout, rows: &[u64], n: usize, side: L3Side, price: u64) -> io::Result<()> {
     if book_valid::rows_broken(rows, n, book::MOST_ROWS) {
-        return;
+        return Ok(());
     }
     let v = book_levels::level_at(rows, n, side, price);
-    text(b"at");
-    number(v.price);
-    number(v.total);
-    number(v.unknown);
-    number(v.orders);
-    text(b"\n");
+    text(to, b"at")?;
+    number(to, v.price)?;
+    number(to, v.total)?;
+    number(to, v.unknown)?;
+    number(to, v.orders)?;
+    text(to, b"\n")
 }
 
 // Walks a side, and answers how many levels were written to `out`.
@@ -167,23 +168,23 @@ fn walk(rows: &[u64], n: usize, side: L3Side, marks: &mut [u64], out: &mut [u64]
     book_walk::write_levels(rows, n, side, 3, marks, size, out)
 }
 
-fn finding(answer: AuditAnswer) {
+fn finding(to: Stdout, answer: AuditAnswer) -> io::Result<()> {
     match answer {
-        AuditAnswer::Ok => text(b" ok"),
-        AuditAnswer::NotLent => text(b" not-lent"),
-        AuditAnswer::SizeNotPositive => text(b" size"),
-        AuditAnswer::IdTwice => text(b" id-twice"),
-        AuditAnswer::Crossed => text(b" crossed"),
+        AuditAnswer::Ok => text(to, b" ok"),
+        AuditAnswer::NotLent => text(to, b" not-lent"),
+        AuditAnswer::SizeNotPositive => text(to, b" size"),
+        AuditAnswer::IdTwice => text(to, b" id-twice"),
+        AuditAnswer::Crossed => text(to, b" crossed"),
     }
 }
 
 // Whether number 3 names the rows, and what an audit finds.
-fn judge(rows: &[u64], n: usize, max_levels: usize) {
-    text(b"broken");
-    yes(book_valid::rows_broken(rows, n, max_levels));
-    text(b" audit");
-    finding(book_audit::audit(rows, n));
-    text(b"\n");
+fn judge(to: Stdout, rows: &[u64], n: usize, max_levels: usize) -> io::Result<()> {
+    text(to, b"broken")?;
+    yes(to, book_valid::rows_broken(rows, n, max_levels))?;
+    text(to, b" audit")?;
+    finding(to, book_audit::audit(rows, n))?;
+    text(to, b"\n")
 }
 
 // Four orders: buys at 10 of the snapshot and observed, sells at 12 of the snapshot and at 13 observed.
@@ -201,114 +202,114 @@ fn set_word(rows: &mut [u64], at: usize, word: u64) {
 }
 
 // The four orders with one word changed.
-fn damaged(at: usize, word: u64) {
+fn damaged(to: Stdout, at: usize, word: u64) -> io::Result<()> {
     let mut rows = [0u64; 40];
     let n = sample(&mut rows);
     set_word(&mut rows, at, word);
-    judge(&rows, n, 3);
+    judge(to, &rows, n, 3)
 }
 
-fn empty_book() {
+fn empty_book(to: Stdout) -> io::Result<()> {
     let rows = [9u64; 8];
-    find(&rows, 0, 1);
-    tops(&rows, 0);
-    meets(&rows, 0, L3Side::Buy, 10);
-    judge(&rows, 0, 0);
+    find(to, &rows, 0, 1)?;
+    tops(to, &rows, 0)?;
+    meets(to, &rows, 0, L3Side::Buy, 10)?;
+    judge(to, &rows, 0, 0)
 }
 
-fn one_row() {
+fn one_row(to: Stdout) -> io::Result<()> {
     let mut rows = [9u64; 16];
     let n = add(&mut rows, 0, order(1, 10, 2, 0, 100));
-    find(&rows, n, 1);
-    find(&rows, n, 2);
-    tops(&rows, n);
-    judge(&rows, n, 1);
-    judge(&rows, n, 0);
+    find(to, &rows, n, 1)?;
+    find(to, &rows, n, 2)?;
+    tops(to, &rows, n)?;
+    judge(to, &rows, n, 1)?;
+    judge(to, &rows, n, 0)?;
     let m = remove(&mut rows, n, 0);
-    show(&rows, 16);
-    tops(&rows, m);
+    show(to, &rows, 16)?;
+    tops(to, &rows, m)
 }
 
-fn searches(rows: &[u64], n: usize) {
-    find(rows, n, 1);
-    find(rows, n, 3);
-    find(rows, n, 4);
-    find(rows, n, 5);
-    tops(rows, n);
-    judge(rows, n, 3);
+fn searches(to: Stdout, rows: &[u64], n: usize) -> io::Result<()> {
+    find(to, rows, n, 1)?;
+    find(to, rows, n, 3)?;
+    find(to, rows, n, 4)?;
+    find(to, rows, n, 5)?;
+    tops(to, rows, n)?;
+    judge(to, rows, n, 3)
 }
 
-fn sides(rows: &[u64], n: usize) {
-    meets(rows, n, L3Side::Buy, 12);
-    meets(rows, n, L3Side::Buy, 11);
-    meets(rows, n, L3Side::Sell, 10);
-    meets(rows, n, L3Side::Sell, 12);
-    level(rows, n, L3Side::Buy, 10);
-    level(rows, n, L3Side::Sell, 12);
-    level(rows, n, L3Side::Sell, 10);
+fn sides(to: Stdout, rows: &[u64], n: usize) -> io::Result<()> {
+    meets(to, rows, n, L3Side::Buy, 12)?;
+    meets(to, rows, n, L3Side::Buy, 11)?;
+    meets(to, rows, n, L3Side::Sell, 10)?;
+    meets(to, rows, n, L3Side::Sell, 12)?;
+    level(to, rows, n, L3Side::Buy, 10)?;
+    level(to, rows, n, L3Side::Sell, 12)?;
+    level(to, rows, n, L3Side::Sell, 10)
 }
 
-fn four_rows() {
+fn four_rows(to: Stdout) -> io::Result<()> {
     let mut rows = [9u64; 40];
     let n = sample(&mut rows);
-    show(&rows, 40);
-    searches(&rows, n);
-    sides(&rows, n);
+    show(to, &rows, 40)?;
+    searches(to, &rows, n)?;
+    sides(to, &rows, n)
 }
 
-fn walks() {
+fn walks(to: Stdout) -> io::Result<()> {
     let mut rows = [0u64; 40];
     let n = sample(&mut rows);
     let m = add(&mut rows, n, order(5, 12, 4, 3, 103));
     let mut marks = [7u64; 6];
     let mut out = [8u64; 12];
     let buys = walk(&rows, m, L3Side::Buy, &mut marks, &mut out);
-    number(buys as u64);
-    show(&out, 12);
-    show(&marks, 6);
+    number(to, buys as u64)?;
+    show(to, &out, 12)?;
+    show(to, &marks, 6)?;
     let sells = walk(&rows, m, L3Side::Sell, &mut marks, &mut out);
-    number(sells as u64);
-    show(&out, 12);
+    number(to, sells as u64)?;
+    show(to, &out, 12)
 }
 
 // Reductions with and without a mark, then removals in the middle, at the front and at the back.
-fn changes() {
+fn changes(to: Stdout) -> io::Result<()> {
     let mut rows = [9u64; 40];
     let n = sample(&mut rows);
     reduce(&mut rows, n, 2, 4, Decrease::Marked(103));
     reduce(&mut rows, n, 0, 1, Decrease::Unmarked);
-    show(&rows, 40);
+    show(to, &rows, 40)?;
     let n3 = remove(&mut rows, n, 1);
-    show(&rows, 40);
+    show(to, &rows, 40)?;
     let n2 = remove(&mut rows, n3, 0);
-    show(&rows, 40);
+    show(to, &rows, 40)?;
     let n1 = remove(&mut rows, n2, 1);
-    show(&rows, 40);
-    judge(&rows, n1, 3);
+    show(to, &rows, 40)?;
+    judge(to, &rows, n1, 3)
 }
 
 // Every way in which number 3 names rows, and amounts at the limits that it does not.
-fn damages() {
-    damaged(39, 1);
-    damaged(4, 4);
-    damaged(2, 0);
-    damaged(2, 1000000000000001);
-    damaged(10, 1000000000000000);
-    damaged(3, 0);
-    damaged(3, 1000000000000001);
-    damaged(3, 1000000000000000);
-    damaged(6, 2);
-    damaged(7, 5);
-    damaged(6, 1);
-    damaged(9, 1);
-    damaged(2, 9);
-    damaged(10, 10);
-    damaged(10, 11);
+fn damages(to: Stdout) -> io::Result<()> {
+    damaged(to, 39, 1)?;
+    damaged(to, 4, 4)?;
+    damaged(to, 2, 0)?;
+    damaged(to, 2, 1000000000000001)?;
+    damaged(to, 10, 1000000000000000)?;
+    damaged(to, 3, 0)?;
+    damaged(to, 3, 1000000000000001)?;
+    damaged(to, 3, 1000000000000000)?;
+    damaged(to, 6, 2)?;
+    damaged(to, 7, 5)?;
+    damaged(to, 6, 1)?;
+    damaged(to, 9, 1)?;
+    damaged(to, 2, 9)?;
+    damaged(to, 10, 10)?;
+    damaged(to, 10, 11)?;
     let mut rows = [0u64; 40];
     let n = sample(&mut rows);
-    judge(&rows, n, 2);
-    judge(&rows, 6, 3);
-    judge(&rows, 4097, 3);
+    judge(to, &rows, n, 2)?;
+    judge(to, &rows, 6, 3)?;
+    judge(to, &rows, 4097, 3)
 }
 
 // Buys below 1,000, sells from 10,000 on, several orders a level.
@@ -332,50 +333,51 @@ fn many_rows(rows: &mut [u64]) -> usize {
     n
 }
 
-fn full_searches(rows: &[u64], n: usize) {
-    number(n as u64);
-    find(rows, n, 0);
-    find(rows, n, 4095);
-    find(rows, n, 4096);
-    tops(rows, n);
-    judge(rows, n, 4096);
-    judge(rows, n, 100);
-    level(rows, n, L3Side::Buy, 8);
+fn full_searches(to: Stdout, rows: &[u64], n: usize) -> io::Result<()> {
+    number(to, n as u64)?;
+    find(to, rows, n, 0)?;
+    find(to, rows, n, 4095)?;
+    find(to, rows, n, 4096)?;
+    tops(to, rows, n)?;
+    judge(to, rows, n, 4096)?;
+    judge(to, rows, n, 100)?;
+    level(to, rows, n, L3Side::Buy, 8)
 }
 
-fn full_walk(rows: &[u64], n: usize) {
+fn full_walk(to: Stdout, rows: &[u64], n: usize) -> io::Result<()> {
     let mut marks = [1u64; 4096];
     let mut out = [0u64; 12288];
     let buys = walk(rows, n, L3Side::Buy, &mut marks, &mut out);
-    number(buys as u64);
-    show(&out, 6);
-    show(&marks, 3);
+    number(to, buys as u64)?;
+    show(to, &out, 6)?;
+    show(to, &marks, 3)
 }
 
 // An order too many is not taken; after a removal one more is, here with an id that rests.
-fn full_changes(rows: &mut [u64], n: usize) {
+fn full_changes(to: Stdout, rows: &mut [u64], n: usize) -> io::Result<()> {
     let full = add(rows, n, order(5000, 500, 1, 2, 5000));
-    number(full as u64);
+    number(to, full as u64)?;
     let less = remove(rows, n, 0);
-    find(rows, less, 4095);
+    find(to, rows, less, 4095)?;
     let again = add(rows, less, order(4095, 500, 1, 2, 5000));
-    judge(rows, again, 4096);
+    judge(to, rows, again, 4096)
 }
 
-fn full_book() {
+fn full_book(to: Stdout) -> io::Result<()> {
     let mut rows = [0u64; 32776];
     let n = many_rows(&mut rows);
-    full_searches(&rows, n);
-    full_walk(&rows, n);
-    full_changes(&mut rows, n);
+    full_searches(to, &rows, n)?;
+    full_walk(to, &rows, n)?;
+    full_changes(to, &mut rows, n)
 }
 
-fn main() {
-    empty_book();
-    one_row();
-    four_rows();
-    walks();
-    changes();
-    damages();
-    full_book();
+fn main(rt: HostRuntime) -> io::Result<()> {
+    let to = rt.stdout();
+    empty_book(to)?;
+    one_row(to)?;
+    four_rows(to)?;
+    walks(to)?;
+    changes(to)?;
+    damages(to)?;
+    full_book(to)
 }

@@ -8,7 +8,7 @@ ghost use Rattle.daybook_lines.specs.Most.{listing_bytes};
 ghost use Rattle.daybook.specs.Listing.{listing as Listing·listing};
 
 use daybook::{LISTING_BYTES, replay};
-use libc::{STDIN_FILENO, STDOUT_FILENO};
+use std::io::{ErrorKind, Read, Stdin, Stdout, Write};
 
 // One byte more than a day file may have, so that a longer input is known to be one.
 const INPUT_BYTES: usize = 65537;
@@ -20,24 +20,23 @@ struct Moved {
     last: bool,
 }
 
-fn read_some(into: &mut [u8]) -> Moved
+fn read_some(mut input: Stdin, into: &mut [u8]) -> Moved
     ensures { result.bytes ≤ length into.new }
 {
-    let got = libc::read(STDIN_FILENO, into);
-    if got < 0 {
-        return Moved {
+    match input.read(into) {
+        Ok(got) => Moved {
+            bytes: got,
+            last: got == 0,
+        },
+        Err(e) => Moved {
             bytes: 0,
-            last: os::errno() != libc::EINTR,
-        };
-    }
-    Moved {
-        bytes: io::count(got, into),
-        last: got == 0,
+            last: e.kind() != ErrorKind::Interrupted,
+        },
     }
 }
 
 // Reads the input to its end, or as much of it as there is room for: more than a day file may have. A read that fails ends it.
-fn read_input(file: &mut [u8]) -> usize
+fn read_input(input: Stdin, file: &mut [u8]) -> usize
     requires { day_bytes < length file.old }
     ensures { IsPrefixLen result file.new }
 {
@@ -48,7 +47,7 @@ fn read_input(file: &mut [u8]) -> usize
         if done == file.len() {
             return done;
         }
-        let moved = read_some(&mut file[done..]);
+        let moved = read_some(input, &mut file[done..]);
         if moved.last {
             return done;
         }
@@ -67,31 +66,30 @@ fn list(file: &[u8], listing: &mut [u8]) -> usize
     replay(file, listing) as usize
 }
 
-fn write_some(from: &[u8]) -> Moved
+fn write_some(mut output: Stdout, from: &[u8]) -> Moved
     ensures { result.bytes ≤ length from.now }
 {
-    let put = libc::write(STDOUT_FILENO, from);
-    if put < 0 {
-        return Moved {
+    match output.write(from) {
+        Ok(put) => Moved {
+            bytes: put,
+            last: put == 0,
+        },
+        Err(e) => Moved {
             bytes: 0,
-            last: os::errno() != libc::EINTR,
-        };
-    }
-    Moved {
-        bytes: io::count(put, from),
-        last: put == 0,
+            last: e.kind() != ErrorKind::Interrupted,
+        },
     }
 }
 
 // Writes all of the text, unless a write fails.
-fn write_output(text: &[u8]) {
+fn write_output(output: Stdout, text: &[u8]) {
     let mut done: usize = 0;
     let mut turns = u64::MAX;
     while 0 < turns {
         if done == text.len() {
             return;
         }
-        let moved = write_some(&text[done..]);
+        let moved = write_some(output, &text[done..]);
         if moved.last {
             return;
         }
@@ -100,10 +98,10 @@ fn write_output(text: &[u8]) {
     }
 }
 
-fn main() {
+fn main(rt: HostRuntime) {
     let mut file = [0u8; INPUT_BYTES];
     let mut listing = [0u8; LISTING_BYTES];
-    let n = read_input(&mut file);
+    let n = read_input(rt.stdin(), &mut file);
     let k = list(&file[..n], &mut listing);
-    write_output(&listing[..k]);
+    write_output(rt.stdout(), &listing[..k]);
 }

@@ -2,11 +2,11 @@
 // a line of the message reader (m) and a line of the snapshot reader (s), the number of 01's table first and then the fields.
 #![tactic(auto)]
 
-ghost use Rattle.std.specs.Prelude.{◌+◌, ◌<◌, ◌≤◌, length};
+ghost use Rattle.std.specs.Prelude.{◌+◌, ◌<◌, ◌≤◌, length, IfOk};
 ghost use Rattle.piece.specs.Words.{message_words};
 
-use libc::{STDIN_FILENO, STDOUT_FILENO};
 use piece::MESSAGE_WORDS;
+use std::io::{self, Read, Stdin, Stdout};
 
 // The word of a message where its event's fields start.
 const FIELDS_AT: usize = 5;
@@ -27,18 +27,22 @@ const LENGTH_BYTES: usize = 4;
 // The most input that is read: the recorded pieces have less.
 const INPUT_BYTES: usize = 262144;
 
-fn print_number(n: u64) {
-    io::write_all(STDOUT_FILENO, b" ");
-    io::print_decimal(STDOUT_FILENO, n);
+fn text(to: Stdout, s: &[u8]) -> io::Result<()> {
+    to.write_all(s)
+}
+
+fn print_number(to: Stdout, n: u64) -> io::Result<()> {
+    text(to, b" ")?;
+    to.print(n)
 }
 
 // The two's complement number in a word.
-fn print_amount(word: u64) {
+fn print_amount(to: Stdout, word: u64) -> io::Result<()> {
     if word < 9223372036854775808 {
-        print_number(word);
+        print_number(to, word)
     } else {
-        io::write_all(STDOUT_FILENO, b" -");
-        io::print_decimal(STDOUT_FILENO, u64::MAX - word + 1);
+        text(to, b" -")?;
+        to.print(u64::MAX - word + 1)
     }
 }
 
@@ -67,75 +71,77 @@ fn is_amount(kind: u64, field: usize) -> bool {
     }
 }
 
-fn print_fields(kind: u64, words: &[u64])
+fn print_fields(to: Stdout, kind: u64, words: &[u64]) -> io::Result<()>
     requires { message_words ≤ length words.now }
 {
     let n = field_count(kind);
     let mut i: usize = 0;
     while i < n {
         if is_amount(kind, i) {
-            print_amount(words[FIELDS_AT + i]);
+            print_amount(to, words[FIELDS_AT + i])?;
         } else {
-            print_number(words[FIELDS_AT + i]);
+            print_number(to, words[FIELDS_AT + i])?;
         }
         i += 1;
     }
+    Ok(())
 }
 
-fn print_message(piece: &[u8]) {
+fn print_message(to: Stdout, piece: &[u8]) -> io::Result<()> {
     let mut words = [0u64; MESSAGE_WORDS];
     let number = host::pinuglaw_read_message(piece, &mut words);
-    io::write_all(STDOUT_FILENO, b"m");
-    print_number(number);
+    text(to, b"m")?;
+    print_number(to, number)?;
     if number == 0 {
-        print_number(words[0]);
-        print_number(words[1]);
-        print_number(words[2]);
-        print_number(words[3]);
-        print_number(words[4]);
-        print_fields(words[0], &words);
+        print_number(to, words[0])?;
+        print_number(to, words[1])?;
+        print_number(to, words[2])?;
+        print_number(to, words[3])?;
+        print_number(to, words[4])?;
+        print_fields(to, words[0], &words)?;
     }
-    io::write_all(STDOUT_FILENO, b"\n");
+    text(to, b"\n")
 }
 
-fn print_order(piece: &[u8], place: usize) {
+fn print_order(to: Stdout, piece: &[u8], place: usize) -> io::Result<()> {
     let mut words = [0u64; ORDER_WORDS];
     host::pinuglaw_snapshot_order(piece, place, &mut words);
-    print_number(words[0]);
-    print_number(words[1]);
-    print_amount(words[2]);
-    print_amount(words[3]);
+    print_number(to, words[0])?;
+    print_number(to, words[1])?;
+    print_amount(to, words[2])?;
+    print_amount(to, words[3])
 }
 
-fn print_orders(piece: &[u8], orders: usize) {
+fn print_orders(to: Stdout, piece: &[u8], orders: usize) -> io::Result<()> {
     let mut place: usize = 0;
     while place < orders {
-        print_order(piece, place);
+        print_order(to, piece, place)?;
         place += 1;
     }
+    Ok(())
 }
 
-fn print_snapshot(piece: &[u8]) {
+fn print_snapshot(to: Stdout, piece: &[u8]) -> io::Result<()> {
     let mut words = [0u64; SNAPSHOT_WORDS];
     let number = host::pinuglaw_read_snapshot(piece, &mut words);
-    io::write_all(STDOUT_FILENO, b"s");
-    print_number(number);
+    text(to, b"s")?;
+    print_number(to, number)?;
     if number == 0 {
-        print_number(words[0]);
-        print_number(words[1]);
-        print_number(words[2]);
-        print_number(words[3]);
-        print_number(words[4]);
+        print_number(to, words[0])?;
+        print_number(to, words[1])?;
+        print_number(to, words[2])?;
+        print_number(to, words[3])?;
+        print_number(to, words[4])?;
         if piece.len() > SNAPSHOT_BYTES {
-            print_orders(piece, (piece.len() - SNAPSHOT_BYTES) / ORDER_BYTES);
+            print_orders(to, piece, (piece.len() - SNAPSHOT_BYTES) / ORDER_BYTES)?;
         }
     }
-    io::write_all(STDOUT_FILENO, b"\n");
+    text(to, b"\n")
 }
 
-fn show(piece: &[u8]) {
-    print_message(piece);
-    print_snapshot(piece);
+fn show(to: Stdout, piece: &[u8]) -> io::Result<()> {
+    print_message(to, piece)?;
+    print_snapshot(to, piece)
 }
 
 fn wide(b: u8) -> usize
@@ -156,22 +162,38 @@ fn length_at(input: &[u8], at: usize) -> usize
 }
 
 // Every piece of the input, up to a length that it does not reach.
-fn show_all(input: &[u8]) {
+fn show_all(to: Stdout, input: &[u8]) -> io::Result<()> {
     let mut at: usize = 0;
     while LENGTH_BYTES <= input.len() - at {
         let start = at + LENGTH_BYTES;
         let n = length_at(input, at);
         if input.len() - start < n {
-            return;
+            return Ok(());
         }
         let end = start + n;
-        show(&input[start..end]);
+        show(to, &input[start..end])?;
         at = end;
     }
+    Ok(())
 }
 
-fn main() {
+// Reads the input to its end, or as much of it as there is room for.
+fn read_input(mut from: Stdin, input: &mut [u8]) -> io::Result<usize>
+    ensures { IfOk result (λ n. n ≤ length input.new) }
+{
+    let mut done: usize = 0;
+    while done < input.len() {
+        let n = from.read(&mut input[done..])?;
+        if n == 0 {
+            return Ok(done);
+        }
+        done += n;
+    }
+    Ok(done)
+}
+
+fn main(rt: HostRuntime) -> io::Result<()> {
     let mut input = [0u8; INPUT_BYTES];
-    let n = io::read_full(STDIN_FILENO, &mut input);
-    show_all(&input[..n]);
+    let n = read_input(rt.stdin(), &mut input)?;
+    show_all(rt.stdout(), &input[..n])
 }

@@ -6,6 +6,7 @@ use host_estimate_words::ESTIMATE_WORDS;
 use host_handshake::HANDSHAKE_WORDS;
 use recorded::{Header, least, load};
 use recorded_pieces::{apply_piece, step_piece};
+use std::io::{self, Stdout};
 
 // Bytes of a word.
 const WORD_BYTES: usize = 8;
@@ -31,19 +32,19 @@ const VOLUME_WORDS: usize = 7;
 const ESTIMATE_ORDERS: usize = 5;
 
 // A new book: the first words of its state as recorded, the rest 0; the rows hold what the seed gives, the segments 0.
-pub fn create(
+pub fn create(to: Stdout,
     h: Header,
     payload: &[u8],
     state: &mut [u64],
     rows: &mut [u64],
     segments: &mut [u64],
-) {
+) -> io::Result<()> {
     fill(state, 0);
     load(state, 0, payload);
     fill(rows, h.first);
     fill(segments, 0);
-    print::number(0);
-    print::book(state, rows, segments);
+    print::number(to, 0)?;
+    print::book(to, state, rows, segments)
 }
 
 fn put(h: Header, payload: &[u8], state: &mut [u64], rows: &mut [u64], segments: &mut [u64]) {
@@ -57,82 +58,83 @@ fn put(h: Header, payload: &[u8], state: &mut [u64], rows: &mut [u64], segments:
 }
 
 // The host writes words into its memory.
-pub fn write(h: Header, payload: &[u8], state: &mut [u64], rows: &mut [u64], segments: &mut [u64]) {
+pub fn write(to: Stdout, h: Header, payload: &[u8], state: &mut [u64], rows: &mut [u64], segments: &mut [u64]) -> io::Result<()> {
     put(h, payload, state, rows, segments);
-    print::number(0);
-    print::book(state, rows, segments);
+    print::number(to, 0)?;
+    print::book(to, state, rows, segments)
 }
 
-pub fn bootstrap(payload: &[u8], state: &mut [u64], rows: &mut [u64], segments: &mut [u64]) {
+pub fn bootstrap(to: Stdout, payload: &[u8], state: &mut [u64], rows: &mut [u64], segments: &mut [u64]) -> io::Result<()> {
     let number = host::pinuglaw_bootstrap(state, rows, segments, payload);
-    print::answer(number, state);
-    print::book(state, rows, segments);
+    print::answer(to, number, state)?;
+    print::book(to, state, rows, segments)
 }
 
-pub fn apply(payload: &[u8], state: &mut [u64], rows: &mut [u64], segments: &mut [u64]) {
+pub fn apply(to: Stdout, payload: &[u8], state: &mut [u64], rows: &mut [u64], segments: &mut [u64]) -> io::Result<()> {
     let number = apply_piece(payload, state, rows, segments);
-    print::answer(number, state);
-    print::book(state, rows, segments);
+    print::answer(to, number, state)?;
+    print::book(to, state, rows, segments)
 }
 
 // Makes a handshake of the segment that the book is in.
-pub fn begin(state: &[u64]) {
+pub fn begin(to: Stdout, state: &[u64]) -> io::Result<()> {
     let mut value = [0u64; HANDSHAKE_WORDS];
     let number = host::pinuglaw_handshake(state, &mut value);
-    show(number, state, &value);
-    print::end();
+    show(to, number, state, &value)?;
+    print::end(to)
 }
 
 // A step of the recorded handshake: its four words, and then the piece.
-pub fn step(payload: &[u8], state: &mut [u64], rows: &mut [u64], segments: &mut [u64]) {
+pub fn step(to: Stdout, payload: &[u8], state: &mut [u64], rows: &mut [u64], segments: &mut [u64]) -> io::Result<()> {
     let mut value = [0u64; HANDSHAKE_WORDS];
     let head = least(WORD_BYTES * HANDSHAKE_WORDS, payload.len());
     load(&mut value, 0, payload);
     let number = step_piece(&payload[head..], state, rows, segments, &mut value);
-    print::answer(number, state);
-    print::words(&value, HANDSHAKE_WORDS);
-    print::book(state, rows, segments);
+    print::answer(to, number, state)?;
+    print::words(to, &value, HANDSHAKE_WORDS)?;
+    print::book(to, state, rows, segments)
 }
 
 // The answer, and where it is 0 the words given.
-fn show(number: u64, state: &[u64], words: &[u64]) {
-    print::answer(number, state);
+fn show(to: Stdout, number: u64, state: &[u64], words: &[u64]) -> io::Result<()> {
+    print::answer(to, number, state)?;
     if number == 0 {
-        print::words(words, words.len());
+        print::words(to, words, words.len())?;
     }
+    Ok(())
 }
 
-pub fn last_sequence(state: &[u64], rows: &[u64]) {
+pub fn last_sequence(to: Stdout, state: &[u64], rows: &[u64]) -> io::Result<()> {
     let mut out = [0u64; LAST_SEQUENCE_WORDS];
     let number = host::pinuglaw_last_sequence(state, rows, &mut out);
-    show(number, state, &out);
-    print::end();
+    show(to, number, state, &out)?;
+    print::end(to)
 }
 
-pub fn best(state: &[u64], rows: &[u64]) {
+pub fn best(to: Stdout, state: &[u64], rows: &[u64]) -> io::Result<()> {
     let mut out = [0u64; BEST_WORDS];
     let number = host::pinuglaw_best(state, rows, &mut out);
-    show(number, state, &out);
-    print::end();
+    show(to, number, state, &out)?;
+    print::end(to)
 }
 
-pub fn audit(state: &[u64], rows: &[u64]) {
-    print::answer(host::pinuglaw_audit(state, rows), state);
-    print::end();
+pub fn audit(to: Stdout, state: &[u64], rows: &[u64]) -> io::Result<()> {
+    print::answer(to, host::pinuglaw_audit(state, rows), state)?;
+    print::end(to)
 }
 
-pub fn invalidation(state: &[u64]) {
+pub fn invalidation(to: Stdout, state: &[u64]) -> io::Result<()> {
     let mut out = [0u64; INVALIDATION_WORDS];
     let number = host::pinuglaw_invalidation(state, &mut out);
-    show(number, state, &out);
-    print::end();
+    show(to, number, state, &out)?;
+    print::end(to)
 }
 
-pub fn segment(h: Header, state: &[u64], segments: &[u64]) {
+pub fn segment(to: Stdout, h: Header, state: &[u64], segments: &[u64]) -> io::Result<()> {
     let mut out = [0u64; RECORD_WORDS];
     let number = host::pinuglaw_segment(state, segments, h.first as usize, &mut out);
-    show(number, state, &out);
-    print::end();
+    show(to, number, state, &out)?;
+    print::end(to)
 }
 
 fn level_call(
@@ -163,65 +165,65 @@ fn entry_words(operation: u64, entries: u64) -> usize {
 }
 
 // A level read with these buffers.
-fn level_lent(h: Header, state: &[u64], rows: &[u64], scratch: &mut [u64], out: &mut [u64]) {
+fn level_lent(to: Stdout, h: Header, state: &[u64], rows: &[u64], scratch: &mut [u64], out: &mut [u64]) -> io::Result<()> {
     let mut count = [0u64; COUNT_WORDS];
     fill(scratch, 1);
     fill(out, 2);
     let number = level_call(h, state, rows, scratch, out, &mut count);
-    show(number, state, &count);
+    show(to, number, state, &count)?;
     if number == 0 {
-        print::words(out, entry_words(h.operation, word(&count, 0)));
+        print::words(to, out, entry_words(h.operation, word(&count, 0)))?;
     }
-    print::digests();
-    print::number(digest(scratch));
-    print::number(digest(out));
-    print::end();
+    print::digests(to)?;
+    print::number(to, digest(scratch))?;
+    print::number(to, digest(out))?;
+    print::end(to)
 }
 
-fn level_lend(h: Header, state: &[u64], rows: &[u64], scratch: &mut [u64], out: &mut [u64]) {
+fn level_lend(to: Stdout, h: Header, state: &[u64], rows: &[u64], scratch: &mut [u64], out: &mut [u64]) -> io::Result<()> {
     let s = least(h.scratch, scratch.len());
     let o = least(h.output, out.len());
-    level_lent(h, state, rows, &mut scratch[..s], &mut out[..o]);
+    level_lent(to, h, state, rows, &mut scratch[..s], &mut out[..o])
 }
 
-pub fn level_read(h: Header, state: &[u64], rows: &[u64]) {
+pub fn level_read(to: Stdout, h: Header, state: &[u64], rows: &[u64]) -> io::Result<()> {
     let mut scratch = [0u64; SCRATCH];
     let mut out = [0u64; OUTPUT];
-    level_lend(h, state, rows, &mut scratch, &mut out);
+    level_lend(to, h, state, rows, &mut scratch, &mut out)
 }
 
-fn estimate_lent(h: Header, state: &[u64], rows: &[u64], ahead: &mut [u64]) {
+fn estimate_lent(to: Stdout, h: Header, state: &[u64], rows: &[u64], ahead: &mut [u64]) -> io::Result<()> {
     let mut estimate = [0u64; ESTIMATE_WORDS];
     fill(ahead, 3);
     let number = host::pinuglaw_queue_estimate(state, rows, h.which, h.first, ahead, &mut estimate);
-    show(number, state, &estimate);
+    show(to, number, state, &estimate)?;
     if number == 0 {
         let orders = word(&estimate, ESTIMATE_ORDERS) as usize;
-        print::words(
+        print::words(to, 
             ahead,
             AHEAD_ENTRY_WORDS * least(orders, AHEAD / AHEAD_ENTRY_WORDS),
-        );
+        )?;
     }
-    print::digests();
-    print::number(digest(ahead));
-    print::end();
+    print::digests(to)?;
+    print::number(to, digest(ahead))?;
+    print::end(to)
 }
 
-fn estimate_lend(h: Header, state: &[u64], rows: &[u64], ahead: &mut [u64]) {
+fn estimate_lend(to: Stdout, h: Header, state: &[u64], rows: &[u64], ahead: &mut [u64]) -> io::Result<()> {
     let a = least(h.ahead, ahead.len());
-    estimate_lent(h, state, rows, &mut ahead[..a]);
+    estimate_lent(to, h, state, rows, &mut ahead[..a])
 }
 
-pub fn queue_estimate(h: Header, state: &[u64], rows: &[u64]) {
+pub fn queue_estimate(to: Stdout, h: Header, state: &[u64], rows: &[u64]) -> io::Result<()> {
     let mut ahead = [0u64; AHEAD];
-    estimate_lend(h, state, rows, &mut ahead);
+    estimate_lend(to, h, state, rows, &mut ahead)
 }
 
-pub fn queue_estimate_own(h: Header, state: &[u64], rows: &[u64]) {
+pub fn queue_estimate_own(to: Stdout, h: Header, state: &[u64], rows: &[u64]) -> io::Result<()> {
     let mut estimate = [0u64; ESTIMATE_WORDS];
     let number = host::pinuglaw_queue_estimate_own(state, rows, h.first, h.second, &mut estimate);
-    show(number, state, &estimate);
-    print::end();
+    show(to, number, state, &estimate)?;
+    print::end(to)
 }
 
 // The words that bytes hold, lent as the estimate's list.
@@ -239,7 +241,7 @@ fn ahead_lend(
 }
 
 // The volume ahead of the recorded estimate: its eight words, and then its list.
-pub fn volume_ahead(payload: &[u8], state: &[u64], rows: &[u64]) {
+pub fn volume_ahead(to: Stdout, payload: &[u8], state: &[u64], rows: &[u64]) -> io::Result<()> {
     let mut estimate = [0u64; ESTIMATE_WORDS];
     let mut list = [0u64; AHEAD];
     let mut out = [0u64; VOLUME_WORDS];
@@ -253,6 +255,6 @@ pub fn volume_ahead(payload: &[u8], state: &[u64], rows: &[u64]) {
         &mut list,
         &mut out,
     );
-    show(number, state, &out);
-    print::end();
+    show(to, number, state, &out)?;
+    print::end(to)
 }
