@@ -1,6 +1,5 @@
 -- The tests of the code are those of `audit_of`, in its order, and each branch settles one; the first two passed lend the rows that the others look at.
 use borrow.Author.Tests.{lt-ltb, le-ltb}
-use borrow.Author.Rules.{rules}
 use Rattle.book_audit.proofs.audit.Goals as goal
 
 pub returns-then-n-gt-MOST_ROWS : goal.returns-then-n-gt-MOST_ROWS

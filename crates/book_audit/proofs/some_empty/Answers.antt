@@ -1,14 +1,10 @@
 -- The loop keeps that some row is empty exactly where one from `i` on is. So a row with nothing left settles it, one with a rest can be left out, and with no
 -- row left none is empty.
-use Prim.Native.Nat.{◌≤◌, ◌-◌}
-use mathlib.Core.Path.{◌≡◌}
 use native.Mathlib.Nat.{sub-zero}
 use native.Mathlib.Omega.{arith}
 use borrow.Author.Rules.{rules}
 use borrow.Author.Tests.{eq-eqb, ne_eqb}
-use Rattle.book.specs.Rows.{rows_from, rows_of}
 use Rattle.book.proofs.Rows.{rows_next, rows-done}
-use Rattle.book_valid.specs.Audit.{some_empty}
 use Rattle.book_audit.proofs.some_empty.Goals as goal
 
 pub loop-i-init : goal.loop-i-init

@@ -2,12 +2,7 @@
 -- row left none is empty.
 use Prim.Native.Nat.{◌≤◌, ◌-◌}
 use mathlib.Core.Path.{◌≡◌}
-use native.Mathlib.Nat.{sub-zero}
-use native.Mathlib.Omega.{arith}
-use borrow.Author.Rules.{rules}
-use borrow.Author.Tests.{eq-eqb, ne_eqb}
 use Rattle.book.specs.Rows.{rows_from, rows_of}
-use Rattle.book.proofs.Rows.{rows_next, rows-done}
 use Rattle.book_valid.specs.Audit.{some_empty}
 use Rattle.book_audit.proofs.some_empty.Given as goal
 

@@ -3,7 +3,6 @@
 use mathlib.Core.Path.{sym, ap, ◌∙◌}
 use native.Mathlib.Omega.{arith}
 use lib.ListN.{get_or}
-use borrow.Author.Rules.{rules}
 use Rattle.book_index.proofs.Index.{no_place, unmarked-none, near_is}
 use Rattle.book.specs.Rows.{rows_of}
 use Rattle.book_index.proofs.find.Goals as goal

@@ -1,7 +1,5 @@
-use Prim.Native.Nat.{◌≤◌}
 use mathlib.Core.Path.{sym, ap, ◌∙◌}
 use native.Mathlib.Omega.{arith}
-use borrow.Author.Rules.{rules}
 use Rattle.message.specs.Same.{same_id}
 use Rattle.book.specs.declared.Resting.{Resting}
 use Rattle.book.specs.Rows.{id_of}

@@ -1,5 +1,4 @@
 use mathlib.Core.Path.{sym, ◌∙◌}
-use borrow.Author.Rules.{rules}
 use Rattle.book_index.proofs.Index.{clear_apart}
 use Rattle.book.specs.Rows.{rows_of}
 use Rattle.book_index.proofs.would_cross.Goals as goal

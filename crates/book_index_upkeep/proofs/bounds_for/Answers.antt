@@ -1,4 +1,3 @@
-use borrow.Author.Rules.{rules}
 use Rattle.book_index.proofs.Index.{within-kept, bounded_now}
 use Rattle.book.specs.Rows.{rows_of}
 use Rattle.book_index_upkeep.proofs.bounds_for.Goals as goal

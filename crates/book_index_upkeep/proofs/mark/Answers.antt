@@ -1,7 +1,6 @@
 use mathlib.Core.Path.{sym}
 use native.Mathlib.Omega.{arith}
 use lib.Seq.{set_out}
-use borrow.Author.Rules.{rules}
 use Rattle.book_index.specs.Index.{marked_at}
 use Rattle.book_index_upkeep.proofs.mark.Goals as goal
 

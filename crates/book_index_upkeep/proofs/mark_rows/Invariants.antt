@@ -1,13 +1,10 @@
 -- The loop keeps the first `i` rows marked: a mark writes a place above 0 into the bucket of its row, and so unmarks no other row of that bucket.
 use Prim.Native.Nat.{◌≤◌, ◌-◌}
-use mathlib.Core.Path.{◌≡◌, refl}
+use mathlib.Core.Path.{◌≡◌}
 use mathlib.Core.Bool.{true}
-use native.Mathlib.Omega.{arith}
-use borrow.Author.Rules.{rules}
 use lib.ListN.{length}
 use Rattle.book.specs.Rows.{rows_of}
 use Rattle.book_index.specs.Index.{all, row_marked}
-use Rattle.book_index.proofs.Index.{marks-none, marks-next}
 use Rattle.book_index_upkeep.proofs.mark_rows.Given as goal
 
 abbrev pub invariant-loop-i : goal.invariant-loop-i

@@ -1,4 +1,3 @@
-use borrow.Author.Rules.{rules}
 use Rattle.book_index_upkeep.proofs.note.Goals as goal
 
 pub returns-in-Open : goal.returns-in-Open

@@ -1,7 +1,6 @@
 use mathlib.Core.Path.{◌∙◌, ap, sym}
 use mathlib.Core.Bool.{not}
 use lib.Dec.{eqb}
-use borrow.Author.Rules.{rules}
 use Rattle.book.specs.Rows.{rows_of}
 use Rattle.book.proofs.Rows.{length-rows}
 use Rattle.book_row_keys.specs.declared.KeyKind.TheVariants.{Id}

@@ -1,6 +1,5 @@
 use mathlib.Core.Path.{◌∙◌, ap}
 use mathlib.Core.Bool.{not}
-use borrow.Author.Rules.{rules}
 use Rattle.message.specs.Same.{same_side}
 use Rattle.book_keys.proofs.is_other.Goals as goal
 

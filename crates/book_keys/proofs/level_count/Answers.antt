@@ -1,5 +1,4 @@
 use mathlib.Core.Path.{◌∙◌, sym}
-use borrow.Author.Rules.{rules}
 use Rattle.book.specs.Rows.{rows_of}
 use Rattle.book_keys.proofs.Counts.{levels_keys}
 use Rattle.book_keys.proofs.level_count.Goals as goal

@@ -1,5 +1,4 @@
 use native.Mathlib.Omega.{arith}
-use borrow.Author.Rules.{rules}
 use Rattle.book.specs.Rows.{rows_of}
 use Rattle.book_keys.proofs.Counts.{side_keys}
 use Rattle.book_keys.proofs.side_level_count.Goals as goal

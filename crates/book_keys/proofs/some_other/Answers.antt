@@ -1,12 +1,8 @@
 -- The answer for all rows stays that for the rows from `i` on: a row of the side adds nothing to it, another row makes it true, and no row makes it false.
-use Prim.Native.Nat.{◌≤◌, ◌-◌}
-use mathlib.Core.Path.{◌≡◌}
 use native.Mathlib.Nat.{sub-zero}
 use native.Mathlib.Omega.{arith}
 use borrow.Author.Rules.{rules}
-use Rattle.book.specs.Rows.{rows_from, rows_of}
 use Rattle.book.proofs.Rows.{rows_next, rows-done}
-use Rattle.book_keys.specs.Others.{some_other}
 use Rattle.book_keys.proofs.some_other.Goals as goal
 
 pub loop-i-init : goal.loop-i-init

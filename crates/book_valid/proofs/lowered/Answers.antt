@@ -1,5 +1,4 @@
 use borrow.Author.Tests.{lt-ltb, le-ltb}
-use borrow.Author.Rules.{rules}
 use Rattle.book_valid.proofs.lowered.Goals as goal
 
 pub returns-then-o-ask : goal.returns-then-o-ask

@@ -1,5 +1,4 @@
 use borrow.Author.Tests.{lt-ltb, le-ltb}
-use borrow.Author.Rules.{rules}
 use Rattle.book_valid.proofs.raised.Goals as goal
 
 pub returns-then-bid-o : goal.returns-then-bid-o

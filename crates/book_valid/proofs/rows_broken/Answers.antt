@@ -4,7 +4,6 @@ use mathlib.Core.Path.{◌∙◌, sym}
 use native.Mathlib.Omega.{arith}
 use lib.Dec.{ltb}
 use borrow.Author.Tests.{lt-ltb, le-ltb}
-use borrow.Author.Rules.{rules}
 use Rattle.book.specs.Line.{levels, crossed}
 use Rattle.book.specs.Rows.{rows_of, line_of}
 use Rattle.book.specs.Broken.{some_row_broken, id_twice}

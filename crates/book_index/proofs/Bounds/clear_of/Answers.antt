@@ -1,4 +1,3 @@
-use borrow.Author.Rules.{rules}
 use Rattle.book_index.specs.Index.{clear_of}
 use Rattle.book_index.proofs.Bounds.clear_of.Goals as goal
 

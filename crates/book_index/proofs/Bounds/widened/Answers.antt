@@ -1,4 +1,3 @@
-use borrow.Author.Rules.{rules}
 use borrow.Author.Tests.{lt-ltb, le-ltb}
 use Rattle.book_index.specs.Index.{widened}
 use Rattle.book_index.proofs.Bounds.widened.Goals as goal
