@@ -10,7 +10,7 @@ use native.Mathlib.Omega.{arith}
 use borrow.Author.Tests.{ne_eqb, not-false}
 use lib.Dec.{eqb}
 use lib.ListN.{length}
-use Rattle.reconstructor_segments.proofs.Last.{length-relast, relast-same}
+use Rattle.reconstructor_segments.proofs.Last.{relast-same}
 use Rattle.message.specs.declared.L3Message.{L3Message}
 use Rattle.message.specs.Values.{event_in_range}
 use Rattle.book.specs.Broken.{WellFormed}
@@ -34,7 +34,7 @@ use Rattle.reconstructor_state.specs.State.{with, with_counts, last_of}
 use Rattle.reconstructor_checks.specs.StateChecks.{broken, Usable}
 use Rattle.reconstructor_plan.specs.Rules.{event_refusal, event_deed, effect}
 use Rattle.reconstructor.specs.Refusals.{admit_refusal, turn_refusal}
-use Rattle.reconstructor.specs.Applied.{refused_book, refused_reply, invalidated_reply, accepted_reply, accepted, decided, at_turn, after_gate, book_gate, applied_to, applied, Worked, Parts}
+use Rattle.reconstructor.specs.Applied.{refused_book, refused_reply, invalidated_reply, accepted_reply, accepted, decided, at_turn, after_gate, book_gate, applied_to, applied, Worked}
 use Rattle.book.proofs.Memory.{line-by}
 use Rattle.book.proofs.Rows.{length-rows}
 use Rattle.book.proofs.Stored.{rows-stored, length-stored}
