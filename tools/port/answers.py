@@ -138,7 +138,9 @@ def rewrite(fn, text, notes, goal):
         if step in ("args", "requires", "ranges", "well-formed"):
             if step == "requires" and len(fn.clauses["requires"]) > 1 and rest and rest[0].isdigit():
                 rest[0] = fn.clauses["requires"][int(rest[0])]
-            return ".".join(["c", fields[0]] + rest)
+            if step == "args":
+                rest = [field.replace("-", "_") for field in rest]
+            return ".".join(["c", fields[0].replace("-", "_")] + rest)
         if step in fn.clash:
             notes.append(f"{fn.name}: step {fields[0]} stands at two places")
         for length in range(len(rest), 0, -1):
