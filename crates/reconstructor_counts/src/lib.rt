@@ -45,6 +45,7 @@ pub enum Counter {
 }
 
 // One more, or the largest number.
+#[tactic(auto, unfolding(crate::specs::Counts::saturated))]
 pub fn saturating_next(x: u64) -> u64
     ensures { result ≡ saturated x }
 {
