@@ -1,0 +1,21 @@
+use mathlib.Core.Path.{◌∙◌, sym, refl, ap}
+use Rattle.book.specs.Memory.{memory}
+use Rattle.reconstructor_state.specs.State.{last_of}
+use Rattle.reconstructor_view.specs.ValueReads.{read_refusal_of, view_refusal, sequence_of}
+use Rattle.reconstructor_checks.proofs.StateChecks.{said, said-none}
+use Rattle.reconstructor_state.proofs.Checks.{first-fails, first_on}
+use Rattle.reconstructor_view.proofs.valid_book.Goals as goal
+
+pub returns-in-Refused : goal.returns-in-Refused
+unfolding view_refusal sequence_of
+returns-in-Refused c =
+    let a = c.args in
+    let h = said (read_refusal_of a.top a.book (memory a.rows.now) a.short) _ _ c.read_checks.ensures c.in-Refused.is in
+    ap (λ o. sequence_of o (last_of a.book.status)) (sym (first-fails _ _ _ _ h))
+
+pub returns-in-Passed : goal.returns-in-Passed
+unfolding view_refusal sequence_of
+returns-in-Passed c =
+    let a = c.args in
+    let h = said-none (read_refusal_of a.top a.book (memory a.rows.now) a.short) _ c.read_checks.ensures c.in-Passed.is in
+    c.valid_status.ensures ∙ ap (λ o. sequence_of o (last_of a.book.status)) (sym (first_on _ _ _ _ h refl))
