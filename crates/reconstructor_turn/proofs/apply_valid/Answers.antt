@@ -1,0 +1,25 @@
+-- By the answer of `take_turn`: where it plans, the rules do not refuse, and the plan fits and has the outcome of their deed, so committing it is their
+-- acceptance. Where it breaks, the rules refuse for that reason, and the rows stay.
+use mathlib.Core.Path.{◌∙◌, ap}
+use Rattle.reconstructor.specs.declared.Reply.{Reply}
+use Rattle.reconstructor.specs.Applied.{accepted, decided, core}
+use Rattle.reconstructor.specs.Inner.{committed}
+use Rattle.book.specs.Memory.{memory}
+use Rattle.reconstructor_turn.proofs.apply_valid.Goals as goal
+
+pub commit-requires : goal.commit-requires
+commit-requires c = record { ready = c.requires.ready; plan_fits = (rw c.in-Plan.is at c.take_turn.ensures).2 }
+
+pub returns-in-Plan : goal.returns-in-Plan
+unfolding decided accepted committed
+returns-in-Plan c =
+    let a = c.args in
+    let h = rw c.in-Plan.is at c.take_turn.ensures in
+    rw h.0 (c.commit.ensures ∙ ap (committed a.book a.rows.now a.message.sequence) h.1)
+
+pub returns-in-Broken : goal.returns-in-Broken
+unfolding decided
+returns-in-Broken c =
+    let a = c.args in
+    let h = rw c.in-Broken.is at c.take_turn.ensures in
+    rw h (ap (λ (r : Reply). core r (memory a.rows.now)) c.invalidated.ensures)
