@@ -1,0 +1,39 @@
+-- The first loop keeps the first `i` rows those of the orders, the second the rows up to `k` those with blank ones behind, and both the words beyond as
+-- they were. Blank rows are zeros, so the end is `stored`.
+use mathlib.Core.Path.{◌≡◌, refl, ◌∙◌}
+use native.Mathlib.Omega.{arith}
+use Rattle.reconstructor_bootstrap.specs.Places.{entries_from, rows_at}
+use Rattle.book.specs.Rows.{empty_row}
+use Rattle.reconstructor_bootstrap.proofs.Filled.{filled_on, filled_none, filled_next, blanks-none, blanks-next, filled-stored}
+use Rattle.reconstructor_bootstrap.proofs.Places.{rows_at-next, rows_at-length}
+use Rattle.reconstructor_snapshot.proofs.store_rows.Goals as goal
+
+pub loop-i-init : goal.loop-i-init
+unfolding entries_from
+loop-i-init c = (omega arith, filled_none c.args.rows.now)
+
+pub set_row-requires : goal.set_row-requires
+set_row-requires c = (omega (arith, c.loop-i.invariant.1.same), omega arith)
+
+pub loop-i-preserved : goal.loop-i-preserved
+loop-i-preserved c =
+    let a = c.args in
+    (omega arith, rw (rows_at-next a.bids a.bytes.now a.sequence c.loop-i.i c.snapshot_row-order.result c.snapshot_row-order.ensures) (filled_next a.rows.now c.loop-i.rows _ c.loop-i.i _ c.snapshot_row-order.result (omega arith) c.set_row.ensures c.loop-i.invariant.1))
+
+pub loop-k-init : goal.loop-k-init
+loop-k-init c =
+    let a = c.args in
+    let z : c.loop-i.i ≡ a.n = omega arith in (omega arith, omega arith, record { same = refl; rows = (rw z at c.loop-i.invariant.1.rows) ∙ blanks-none _ a.n; rest = refl })
+
+pub set_row-requires-in-loop-k : goal.set_row-requires-in-loop-k
+set_row-requires-in-loop-k c = (omega (arith, c.loop-k.invariant.2.same), omega arith)
+
+pub loop-k-preserved : goal.loop-k-preserved
+loop-k-preserved c =
+    let a = c.args in
+    (omega arith, omega arith, rw (blanks-next (rows_at a.bids a.bytes.now a.n a.sequence) a.n c.loop-k.k c.loop-k.invariant.0) (filled_next c.loop-i.rows c.loop-k.rows _ c.loop-k.k _ empty_row (omega (arith, c.loop-i.invariant.1.same)) c.set_row-in-loop-k.ensures c.loop-k.invariant.2))
+
+pub returns : goal.returns
+returns c =
+    let a = c.args in
+    let z : c.loop-i.i ≡ a.n = omega arith in filled-stored a.rows.now _ a.former a.n c.loop-k.k _ (rows_at-length a.bids a.bytes.now a.sequence a.n) (omega arith) (omega arith) (filled_on a.rows.now c.loop-i.rows _ c.loop-i.i c.loop-k.k _ _ (omega arith) c.loop-i.invariant.1 c.loop-k.invariant.2)
