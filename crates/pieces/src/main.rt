@@ -2,7 +2,7 @@
 // a line of the message reader (m) and a line of the snapshot reader (s), the number of 01's table first and then the fields.
 #![tactic(auto)]
 
-ghost use Rattle.std.specs.Prelude.{◌+◌, ◌<◌, ◌≤◌, length, IfOk};
+ghost use Rattle.std.specs.Prelude.{◌≡◌, ◌+◌, ◌<◌, ◌≤◌, length, IfOk};
 ghost use Rattle.piece.specs.Words.{message_words};
 
 use piece::MESSAGE_WORDS;
@@ -192,8 +192,15 @@ fn read_input(mut from: Stdin, input: &mut [u8]) -> io::Result<usize>
     Ok(done)
 }
 
+// Zeros, where the input goes. The `ensures` gives only the length, which lending the array as a slice needs.
+fn buffer() -> [u8; INPUT_BYTES]
+    ensures { 262144 ≡ length result }
+{
+    [0; INPUT_BYTES]
+}
+
 fn main(rt: HostRuntime) -> io::Result<()> {
-    let mut input = [0u8; INPUT_BYTES];
+    let mut input = buffer();
     let n = read_input(rt.stdin(), &mut input)?;
     show_all(rt.stdout(), &input[..n])
 }

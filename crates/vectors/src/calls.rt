@@ -32,7 +32,8 @@ const VOLUME_WORDS: usize = 7;
 const ESTIMATE_ORDERS: usize = 5;
 
 // A new book: the first words of its state as recorded, the rest 0; the rows hold what the seed gives, the segments 0.
-pub fn create(to: Stdout,
+pub fn create(
+    to: Stdout,
     h: Header,
     payload: &[u8],
     state: &mut [u64],
@@ -58,19 +59,38 @@ fn put(h: Header, payload: &[u8], state: &mut [u64], rows: &mut [u64], segments:
 }
 
 // The host writes words into its memory.
-pub fn write(to: Stdout, h: Header, payload: &[u8], state: &mut [u64], rows: &mut [u64], segments: &mut [u64]) -> io::Result<()> {
+pub fn write(
+    to: Stdout,
+    h: Header,
+    payload: &[u8],
+    state: &mut [u64],
+    rows: &mut [u64],
+    segments: &mut [u64],
+) -> io::Result<()> {
     put(h, payload, state, rows, segments);
     print::number(to, 0)?;
     print::book(to, state, rows, segments)
 }
 
-pub fn bootstrap(to: Stdout, payload: &[u8], state: &mut [u64], rows: &mut [u64], segments: &mut [u64]) -> io::Result<()> {
+pub fn bootstrap(
+    to: Stdout,
+    payload: &[u8],
+    state: &mut [u64],
+    rows: &mut [u64],
+    segments: &mut [u64],
+) -> io::Result<()> {
     let number = host::pinuglaw_bootstrap(state, rows, segments, payload);
     print::answer(to, number, state)?;
     print::book(to, state, rows, segments)
 }
 
-pub fn apply(to: Stdout, payload: &[u8], state: &mut [u64], rows: &mut [u64], segments: &mut [u64]) -> io::Result<()> {
+pub fn apply(
+    to: Stdout,
+    payload: &[u8],
+    state: &mut [u64],
+    rows: &mut [u64],
+    segments: &mut [u64],
+) -> io::Result<()> {
     let number = apply_piece(payload, state, rows, segments);
     print::answer(to, number, state)?;
     print::book(to, state, rows, segments)
@@ -85,7 +105,13 @@ pub fn begin(to: Stdout, state: &[u64]) -> io::Result<()> {
 }
 
 // A step of the recorded handshake: its four words, and then the piece.
-pub fn step(to: Stdout, payload: &[u8], state: &mut [u64], rows: &mut [u64], segments: &mut [u64]) -> io::Result<()> {
+pub fn step(
+    to: Stdout,
+    payload: &[u8],
+    state: &mut [u64],
+    rows: &mut [u64],
+    segments: &mut [u64],
+) -> io::Result<()> {
     let mut value = [0u64; HANDSHAKE_WORDS];
     let head = least(WORD_BYTES * HANDSHAKE_WORDS, payload.len());
     load(&mut value, 0, payload);
@@ -165,7 +191,14 @@ fn entry_words(operation: u64, entries: u64) -> usize {
 }
 
 // A level read with these buffers.
-fn level_lent(to: Stdout, h: Header, state: &[u64], rows: &[u64], scratch: &mut [u64], out: &mut [u64]) -> io::Result<()> {
+fn level_lent(
+    to: Stdout,
+    h: Header,
+    state: &[u64],
+    rows: &[u64],
+    scratch: &mut [u64],
+    out: &mut [u64],
+) -> io::Result<()> {
     let mut count = [0u64; COUNT_WORDS];
     fill(scratch, 1);
     fill(out, 2);
@@ -180,7 +213,14 @@ fn level_lent(to: Stdout, h: Header, state: &[u64], rows: &[u64], scratch: &mut 
     print::end(to)
 }
 
-fn level_lend(to: Stdout, h: Header, state: &[u64], rows: &[u64], scratch: &mut [u64], out: &mut [u64]) -> io::Result<()> {
+fn level_lend(
+    to: Stdout,
+    h: Header,
+    state: &[u64],
+    rows: &[u64],
+    scratch: &mut [u64],
+    out: &mut [u64],
+) -> io::Result<()> {
     let s = least(h.scratch, scratch.len());
     let o = least(h.output, out.len());
     level_lent(to, h, state, rows, &mut scratch[..s], &mut out[..o])
@@ -192,14 +232,21 @@ pub fn level_read(to: Stdout, h: Header, state: &[u64], rows: &[u64]) -> io::Res
     level_lend(to, h, state, rows, &mut scratch, &mut out)
 }
 
-fn estimate_lent(to: Stdout, h: Header, state: &[u64], rows: &[u64], ahead: &mut [u64]) -> io::Result<()> {
+fn estimate_lent(
+    to: Stdout,
+    h: Header,
+    state: &[u64],
+    rows: &[u64],
+    ahead: &mut [u64],
+) -> io::Result<()> {
     let mut estimate = [0u64; ESTIMATE_WORDS];
     fill(ahead, 3);
     let number = host::pinuglaw_queue_estimate(state, rows, h.which, h.first, ahead, &mut estimate);
     show(to, number, state, &estimate)?;
     if number == 0 {
         let orders = word(&estimate, ESTIMATE_ORDERS) as usize;
-        print::words(to, 
+        print::words(
+            to,
             ahead,
             AHEAD_ENTRY_WORDS * least(orders, AHEAD / AHEAD_ENTRY_WORDS),
         )?;
@@ -209,7 +256,13 @@ fn estimate_lent(to: Stdout, h: Header, state: &[u64], rows: &[u64], ahead: &mut
     print::end(to)
 }
 
-fn estimate_lend(to: Stdout, h: Header, state: &[u64], rows: &[u64], ahead: &mut [u64]) -> io::Result<()> {
+fn estimate_lend(
+    to: Stdout,
+    h: Header,
+    state: &[u64],
+    rows: &[u64],
+    ahead: &mut [u64],
+) -> io::Result<()> {
     let a = least(h.ahead, ahead.len());
     estimate_lent(to, h, state, rows, &mut ahead[..a])
 }

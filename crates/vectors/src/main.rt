@@ -3,7 +3,7 @@
 // in `stdin` and `stdout` beside this folder were made from the Rust by `oracle vectors` (tools/oracle).
 #![tactic(auto)]
 
-ghost use Rattle.std.specs.Prelude.{◌≤◌, length, IfOk};
+ghost use Rattle.std.specs.Prelude.{◌≡◌, ◌≤◌, length, IfOk};
 
 mod calls;
 mod memory;
@@ -18,7 +18,14 @@ use std::io::{self, Read, Stdin, Stdout};
 const INPUT_BYTES: usize = 524288;
 
 // A call that may change the book, or that makes a handshake.
-fn change(to: Stdout, h: Header, payload: &[u8], state: &mut [u64], rows: &mut [u64], segments: &mut [u64]) -> io::Result<()> {
+fn change(
+    to: Stdout,
+    h: Header,
+    payload: &[u8],
+    state: &mut [u64],
+    rows: &mut [u64],
+    segments: &mut [u64],
+) -> io::Result<()> {
     let operation = h.operation;
     match operation {
         0 => calls::create(to, h, payload, state, rows, segments),
@@ -31,7 +38,14 @@ fn change(to: Stdout, h: Header, payload: &[u8], state: &mut [u64], rows: &mut [
 }
 
 // A call that reads the book.
-fn read(to: Stdout, h: Header, payload: &[u8], state: &[u64], rows: &[u64], segments: &[u64]) -> io::Result<()> {
+fn read(
+    to: Stdout,
+    h: Header,
+    payload: &[u8],
+    state: &[u64],
+    rows: &[u64],
+    segments: &[u64],
+) -> io::Result<()> {
     let operation = h.operation;
     match operation {
         6 => calls::last_sequence(to, state, rows),
@@ -47,7 +61,14 @@ fn read(to: Stdout, h: Header, payload: &[u8], state: &[u64], rows: &[u64], segm
     }
 }
 
-fn perform(to: Stdout, h: Header, payload: &[u8], state: &mut [u64], rows: &mut [u64], segments: &mut [u64]) -> io::Result<()> {
+fn perform(
+    to: Stdout,
+    h: Header,
+    payload: &[u8],
+    state: &mut [u64],
+    rows: &mut [u64],
+    segments: &mut [u64],
+) -> io::Result<()> {
     print::voice(to, h.voice)?;
     print::name(to, h.operation)?;
     let operation = h.operation;
@@ -58,7 +79,14 @@ fn perform(to: Stdout, h: Header, payload: &[u8], state: &mut [u64], rows: &mut 
 }
 
 // Lends the call as much of the memory as its header says.
-fn lend(to: Stdout, h: Header, payload: &[u8], state: &mut [u64], rows: &mut [u64], segments: &mut [u64]) -> io::Result<()> {
+fn lend(
+    to: Stdout,
+    h: Header,
+    payload: &[u8],
+    state: &mut [u64],
+    rows: &mut [u64],
+    segments: &mut [u64],
+) -> io::Result<()> {
     let r = least(h.rows, rows.len());
     let s = least(h.segments, segments.len());
     perform(to, h, payload, state, &mut rows[..r], &mut segments[..s])
@@ -78,7 +106,14 @@ fn replay(to: Stdout, input: &[u8]) -> io::Result<()> {
             return Ok(());
         }
         let end = start + n;
-        lend(to, h, &input[start..end], &mut state, &mut rows, &mut segments)?;
+        lend(
+            to,
+            h,
+            &input[start..end],
+            &mut state,
+            &mut rows,
+            &mut segments,
+        )?;
         at = end;
     }
     Ok(())
@@ -99,8 +134,15 @@ fn read_input(mut from: Stdin, input: &mut [u8]) -> io::Result<usize>
     Ok(done)
 }
 
+// Zeros, where the input goes. The `ensures` gives only the length, which lending the array as a slice needs.
+fn buffer() -> [u8; INPUT_BYTES]
+    ensures { 524288 ≡ length result }
+{
+    [0; INPUT_BYTES]
+}
+
 fn main(rt: HostRuntime) -> io::Result<()> {
-    let mut input = [0u8; INPUT_BYTES];
+    let mut input = buffer();
     let n = read_input(rt.stdin(), &mut input)?;
     replay(rt.stdout(), &input[..n])
 }
