@@ -23,6 +23,7 @@ fn records_to(place: usize) -> usize
 }
 
 // `segment` with the record by value, of a list of `lent` records.
+#[tactic(auto, unfolding(reconstructor_view::specs::ValueReads::segment_read_to))]
 pub fn segment_by_value(
     book: BookReconstructor,
     lent: usize,
