@@ -4,7 +4,7 @@
 ghost use Rattle.std.specs.Prelude.{◌≡◌};
 ghost use Rattle.book.specs.Rows.{Lent};
 ghost use Rattle.book.specs.Memory.{memory, orders_of};
-ghost use Rattle.queue.specs.Ahead.{row_with, entered_at};
+ghost use Rattle.queue.specs.Ahead.{row_with, entered_at as Ahead·entered_at};
 ghost use Rattle.queue.specs.Tallies.{RestsFor};
 ghost use Rattle.queue.specs.Estimates.{loses_place, place_unknown};
 
@@ -44,7 +44,7 @@ pub fn resting(rows: &[u64], n: usize, id: OrderId) -> Rests
 // The row of an id, if it entered there: an id that is used again names another order.
 pub fn resting_since(rows: &[u64], n: usize, id: OrderId, entered_at: u64) -> Rests
     requires { Lent rows.now n }
-    ensures { RestsFor (entered_at entered_at (row_with id (orders_of (memory rows.now) n))) result }
+    ensures { RestsFor (Ahead·entered_at entered_at (row_with id (orders_of (memory rows.now) n))) result }
 {
     match resting(rows, n, id) {
         Rests::Row(o) => {

@@ -9,7 +9,7 @@ ghost use Rattle.book.specs.Rows.{Lent, side_of, id_of};
 ghost use Rattle.book.specs.Memory.{memory, orders_of};
 ghost use Rattle.book.specs.Broken.{some_row_broken};
 ghost use Rattle.book_queue.specs.Queue.{rows_at};
-ghost use Rattle.queue.specs.Ahead.{row_with, entered_at, ahead_entry_words, entries_from, still_ahead, before, decreased_after, tally_of};
+ghost use Rattle.queue.specs.Ahead.{row_with, entered_at as Ahead·entered_at, ahead_entry_words, entries_from, still_ahead, before, decreased_after, tally_of};
 ghost use Rattle.queue.specs.Tallies.{no_tally, tally_with, tally_joined, Small};
 ghost use Rattle.queue.specs.Estimates.{list_bound};
 
@@ -71,7 +71,7 @@ fn tally_with(since: u64, o: Resting, t: Tally) -> Tally
 fn tally_entry(rows: &[u64], n: usize, id: OrderId, entered_at: u64, since: u64, t: Tally) -> Tally
     requires lent { Lent rows.now n × (some_row_broken (orders_of (memory rows.now) n) ≡ false) }
     requires small { Small t }
-    ensures { result ≡ tally_joined since (entered_at entered_at (row_with id (orders_of (memory rows.now) n))) t }
+    ensures { result ≡ tally_joined since (Ahead·entered_at entered_at (row_with id (orders_of (memory rows.now) n))) t }
 {
     match queue_place::resting_since(rows, n, id, entered_at) {
         Rests::Row(o) => tally_with(since, o, t),

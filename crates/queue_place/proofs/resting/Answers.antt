@@ -1,0 +1,14 @@
+use mathlib.Core.Path.{◌∙◌, sym}
+use native.Mathlib.Omega.{arith}
+use Rattle.book.proofs.Stored.{found_at}
+use Rattle.queue.proofs.Ahead.{row-found, row_missed}
+use Rattle.queue_place.proofs.resting.Goals as goal
+
+pub get_row-requires : goal.get_row-requires
+get_row-requires c = let f = found_at c.args.rows.now c.args.n c.args.id _ (sym c.find.ensures ∙ c.in-At.is) in (omega (arith, f.inside, c.requires.room), omega (arith, f.inside, c.requires.few))
+
+pub returns-in-At : goal.returns-in-At
+returns-in-At c = rw c.get_row.ensures (row-found c.args.rows.now c.args.n c.args.id _ c.find.ensures _ c.in-At.is)
+
+pub returns-in-Nothing : goal.returns-in-Nothing
+returns-in-Nothing c = row_missed c.args.rows.now c.args.n c.args.id _ c.find.ensures c.in-Nothing.is
