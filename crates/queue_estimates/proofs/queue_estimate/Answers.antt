@@ -1,6 +1,5 @@
 use mathlib.Core.Path.{ap}
 use Rattle.message.proofs.Signed.{back}
-use borrow.Author.Rules.{rules}
 use Rattle.queue.specs.Estimates.{EstimateParts}
 use Rattle.queue.specs.Numbers.{estimate_told}
 use Rattle.queue_estimates.proofs.queue_estimate.Goals as goal

@@ -13,7 +13,6 @@ use Rattle.book_queue.proofs.Orders.{at_most, width-entries}
 use Rattle.reconstructor_checks.proofs.StateChecks.{rows-ready}
 use Rattle.reconstructor_view.proofs.Readable.{refused-for, found-valid}
 use Rattle.queue.specs.Estimates.{estimated}
-use borrow.Author.Rules.{rules}
 use Rattle.queue_estimates.proofs.queue_estimate_under.Goals as goal
 
 pub order_count-orders-requires : goal.order_count-orders-requires
