@@ -1,0 +1,54 @@
+-- Where `valid_book` answers a sequence, the rows are lent and sound: the own order is looked up, and its price fits an amount.
+use mathlib.Core.Bool.{false}
+use Rattle.book.specs.Memory.{memory, orders_of}
+use Rattle.reconstructor_checks.proofs.StateChecks.{sound, rows-ready}
+use Rattle.reconstructor_view.proofs.Readable.{refused-for, found-valid}
+use Rattle.queue.specs.Estimates.{own_viewed}
+use Rattle.queue.proofs.Ahead.{with-sound, price_most}
+use borrow.Author.Rules.{rules}
+use Rattle.queue_estimates_own.proofs.queue_estimate_own_under.Goals as goal
+
+pub resting-requires : goal.resting-requires
+resting-requires c =
+    let a = c.args in
+    let m = memory a.rows.now in
+    let v = found-valid a.top a.book m false _ c.valid_book.ensures _ c.in-Valid.is in
+    rows-ready a.top a.book m c.requires v.2.trusted
+
+pub returns-in_default : goal.returns-in_default
+unfolding own_viewed
+returns-in_default c =
+    let a = c.args in
+    let v = found-valid a.top a.book (memory a.rows.now) false _ c.valid_book.ensures _ c.in-Valid.is in
+    let w = rw c.in_default.is at c.resting.ensures in
+    rw (v.0, w)
+
+pub returns-then-place_unknown : goal.returns-then-place_unknown
+unfolding own_viewed
+returns-then-place_unknown c =
+    let a = c.args in
+    let v = found-valid a.top a.book (memory a.rows.now) false _ c.valid_book.ensures _ c.in-Valid.is in
+    let w = rw c.in-Row.is at c.resting.ensures in
+    rw (v.0, w, ← c.place_unknown.ensures, c.if-place_unknown.true)
+
+pub own_estimate-requires : goal.own_estimate-requires
+own_estimate-requires c =
+    let a = c.args in
+    let m = memory a.rows.now in
+    let v = found-valid a.top a.book m false _ c.valid_book.ensures _ c.in-Valid.is in
+    let w = rw c.in-Row.is at c.resting.ensures in
+    price_most _ (with-sound a.order_id (orders_of m a.book.rows) _ (sound a.book m v.2.trusted.sound).formed.sound w)
+
+pub returns-in-Refused : goal.returns-in-Refused
+unfolding own_viewed
+returns-in-Refused c =
+    let a = c.args in
+    rw (refused-for a.top a.book (memory a.rows.now) false _ c.valid_book.ensures _ c.in-Refused.is)
+
+pub returns-else-place_unknown : goal.returns-else-place_unknown
+unfolding own_viewed
+returns-else-place_unknown c =
+    let a = c.args in
+    let v = found-valid a.top a.book (memory a.rows.now) false _ c.valid_book.ensures _ c.in-Valid.is in
+    let w = rw c.in-Row.is at c.resting.ensures in
+    rw (v.0, w, ← c.place_unknown.ensures, c.if-place_unknown.false, c.own_estimate.ensures)
