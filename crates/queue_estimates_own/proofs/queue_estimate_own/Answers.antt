@@ -1,5 +1,4 @@
 use mathlib.Core.Path.{ap}
-use borrow.Author.Rules.{rules}
 use Rattle.queue.specs.Numbers.{estimate_told}
 use Rattle.queue_estimates_own.proofs.queue_estimate_own.Goals as goal
 

@@ -5,7 +5,6 @@ use Rattle.reconstructor_checks.proofs.StateChecks.{sound, rows-ready}
 use Rattle.reconstructor_view.proofs.Readable.{refused-for, found-valid}
 use Rattle.queue.specs.Estimates.{own_viewed}
 use Rattle.queue.proofs.Ahead.{with-sound, price_most}
-use borrow.Author.Rules.{rules}
 use Rattle.queue_estimates_own.proofs.queue_estimate_own_under.Goals as goal
 
 pub resting-requires : goal.resting-requires
