@@ -115,7 +115,10 @@ fn tops(to: Stdout, rows: &[u64], n: usize) -> io::Result<()> {
     text(to, b" levels")?;
     number(to, book_keys::level_count(rows, n) as u64)?;
     number(to, book_keys::side_level_count(rows, n, L3Side::Buy) as u64)?;
-    number(to, book_keys::side_level_count(rows, n, L3Side::Sell) as u64)?;
+    number(
+        to,
+        book_keys::side_level_count(rows, n, L3Side::Sell) as u64,
+    )?;
     text(to, b"\n")
 }
 
