@@ -1,0 +1,51 @@
+-- Where `read_checks` passes, the rows are lent and sound, and the scratch is long enough for `show_levels`; the rest goes by the status.
+use mathlib.Core.Path.{ap}
+use native.Mathlib.Omega.{arith}
+use borrow.Author.Tests.{ltb-false}
+use Rattle.book.specs.Memory.{memory}
+use Rattle.reconstructor_checks.proofs.StateChecks.{said, said-none, sound, rows-ready}
+use Rattle.reconstructor_view.specs.ValueReads.{read_refusal_of}
+use Rattle.reconstructor_view.proofs.Readable.{readable}
+use Rattle.reconstructor_reads.specs.declared.StaleAnswer.TheVariants.{Shown}
+use Rattle.reconstructor_reads.specs.LevelReads.{Shows, stale_read, leaves_stale, scratch_short}
+use Rattle.reconstructor_reads_stale.proofs.stale_l2_under.Goals as goal
+
+pub show_levels-requires : goal.show_levels-requires
+show_levels-requires c =
+    let a = c.args in
+    let m = memory a.rows.now in
+    let v = said-none (read_refusal_of a.top a.book m (scratch_short a.book a.scratch.now)) _ c.read_checks.ensures c.in-Passed.is in
+    let r = readable a.top a.book m (scratch_short a.book a.scratch.now) v in
+    let s = sound a.book m r.trusted.sound in
+    record {
+      lent = (rows-ready a.top a.book m c.requires r.trusted, s.formed.sound);
+      n_le_max_orders = (s.few, ltb-false _ _ r.room);
+      l2words_le_width = (omega arith, omega arith);
+    }
+
+pub returns-in-Refused : goal.returns-in-Refused
+unfolding stale_read
+returns-in-Refused c =
+    let a = c.args in
+    rw (said (read_refusal_of a.top a.book (memory a.rows.now) (scratch_short a.book a.scratch.now)) _ _ c.read_checks.ensures c.in-Refused.is)
+
+pub returns-in-Empty : goal.returns-in-Empty
+unfolding stale_read
+returns-in-Empty c =
+    let a = c.args in
+    let v = said-none (read_refusal_of a.top a.book (memory a.rows.now) (scratch_short a.book a.scratch.now)) _ c.read_checks.ensures c.in-Passed.is in
+    rw (v, c.in-Empty.is)
+
+pub returns-in-Valid : goal.returns-in-Valid
+unfolding stale_read
+returns-in-Valid c =
+    let a = c.args in
+    let v = said-none (read_refusal_of a.top a.book (memory a.rows.now) (scratch_short a.book a.scratch.now)) _ c.read_checks.ensures c.in-Passed.is in
+    rw (v, c.in-Valid.is)
+
+pub returns-in-Invalidated : goal.returns-in-Invalidated
+unfolding stale_read
+returns-in-Invalidated c =
+    let a = c.args in
+    let v = said-none (read_refusal_of a.top a.book (memory a.rows.now) (scratch_short a.book a.scratch.now)) _ c.read_checks.ensures c.in-Passed.is in
+    rw (v, c.in-Invalidated.is) (ap (λ (w : Shows). leaves_stale (Shown w.answer) w.scratch w.out) c.show_levels.ensures)
