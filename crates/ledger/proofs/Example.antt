@@ -21,7 +21,7 @@ use Rattle.piece.specs.Bytes.{part, little, big, little_bytes, big_bytes}
 use Rattle.piece.specs.Piece.{read_snapshot, snapshot_shaped, snapshot_of, bids_at, asks_at, orders_from, order_at, order_from, amount_at, word_at, order_id_at, product_id_at}
 use Rattle.piece.specs.Encode.{snapshot_bytes}
 use Rattle.book.specs.Rows.{rows_from, stored, side_of}
-use Rattle.book.specs.Memory.{Memory, memory, Extent, extent_of}
+use Rattle.book.specs.Memory.{Memory, memory, extent_of}
 use Rattle.book.specs.Broken.{row_broken}
 use Rattle.reconstructor_counts.specs.Counts.{saturated}
 use Rattle.reconstructor_segments.specs.declared.Segment.{Segment}

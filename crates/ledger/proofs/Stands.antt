@@ -44,7 +44,7 @@ use Rattle.piece.specs.Piece.{read_snapshot}
 use Rattle.reconstructor_counts.specs.declared.MessageCounts.{MessageCounts}
 use Rattle.reconstructor_state.specs.State.{segment_of}
 use Rattle.reconstructor_bootstrap.specs.declared.SnapshotAnswer.{SnapshotAnswer}
-use Rattle.reconstructor_bootstrap.specs.Snapshot.{snapshot_line, piece_answer, piece_refusal, accept_refusal, boot_refusal}
+use Rattle.reconstructor_bootstrap.specs.Snapshot.{snapshot_line, piece_refusal, accept_refusal, boot_refusal}
 use Rattle.reconstructor_bootstrap.specs.Bootstrap.{Parts as SnapshotParts, refused_book as refused_boot, closed, bootstrapped}
 use Rattle.reconstructor_bootstrap.proofs.Laws.{refusal_of, refused_is, counts_alone, accepted_parts, is-accepted, accepted-usable}
 use Rattle.reconstructor_handshake.specs.declared.Handshake.{Handshake}
