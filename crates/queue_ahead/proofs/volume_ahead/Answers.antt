@@ -1,0 +1,9 @@
+use mathlib.Core.Path.{ap}
+use borrow.Author.Rules.{rules}
+use Rattle.queue.specs.Numbers.{ahead_told}
+use Rattle.queue_ahead.proofs.volume_ahead.Goals as goal
+
+pub returns : goal.returns
+returns c =
+    let e = c.volume_ahead_under.ensures in
+    record { value = e; told = ap ahead_told e }
