@@ -1,5 +1,4 @@
 use mathlib.Core.Path.{ap}
-use borrow.Author.Rules.{rules}
 use Rattle.queue.specs.Numbers.{ahead_told}
 use Rattle.queue_ahead.proofs.volume_ahead.Goals as goal
 

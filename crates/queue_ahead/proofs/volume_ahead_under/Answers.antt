@@ -6,7 +6,6 @@ use Rattle.reconstructor_state.specs.Checks.{check, first}
 use Rattle.reconstructor_checks.proofs.StateChecks.{sound, rows-ready}
 use Rattle.reconstructor_view.proofs.Readable.{refused-for, found-valid}
 use Rattle.queue.specs.Estimates.{ahead_refusal, ahead_of, anchor_ahead}
-use borrow.Author.Rules.{rules}
 use Rattle.queue_ahead.proofs.volume_ahead_under.Goals as goal
 
 pub returns-then-list_short : goal.returns-then-list_short
