@@ -1,0 +1,15 @@
+-- The loop keeps the lines of the first `i` records written, from the text's start on, in no more room than as many of the longest take (`Written`).
+use mathlib.Core.Path.{◌≡◌, refl, ◌∙◌}
+use lib.Seq.{length-take-le, get_or-take}
+use Rattle.reconstructor_segments.specs.Segments.{no_segment}
+use Rattle.daybook_lines.proofs.Listings.{Written, written_none, written_next, written_all}
+use Prim.Native.Nat.{◌≤◌, ◌-◌}
+use lib.ListN.{length, take}
+use native.Mathlib.Omega.{arith}
+use Rattle.daybook_lines.proofs.put_segments.Given as goal
+
+abbrev pub invariant-loop-i : goal.invariant-loop-i
+invariant-loop-i l = Written l.initial.text (take l.count l.segments) l.text l.at l.i × (l.i ≤ l.count) × (length l.text ≡ length l.initial.text)
+
+abbrev pub decreases-loop-i : goal.decreases-loop-i
+decreases-loop-i l = l.count - l.i
