@@ -1,7 +1,6 @@
 use native.Mathlib.Omega.{arith}
 use Rattle.daybook_lines.specs.Listed.{listed}
 use Rattle.text.proofs.Texts.{writes_then}
-use borrow.Author.Rules.{rules}
 use Rattle.daybook_lines.proofs.put_day.Goals as goal
 
 pub returns : goal.returns

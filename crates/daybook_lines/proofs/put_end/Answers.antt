@@ -1,7 +1,6 @@
 use borrow.Author.Tests.{ne_eqb}
 use native.Mathlib.Omega.{arith}
 use Rattle.daybook_lines.specs.Listed.{end_word}
-use borrow.Author.Rules.{rules}
 use Rattle.daybook_lines.proofs.put_end.Goals as goal
 
 pub returns-then-end-eq-OPEN : goal.returns-then-end-eq-OPEN

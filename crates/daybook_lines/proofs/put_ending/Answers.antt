@@ -1,6 +1,5 @@
 use native.Mathlib.Omega.{arith}
 use Rattle.daybook_lines.proofs.Listings.{ending-written}
-use borrow.Author.Rules.{rules}
 use Rattle.daybook_lines.proofs.put_ending.Goals as goal
 
 pub returns : goal.returns

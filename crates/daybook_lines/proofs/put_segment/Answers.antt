@@ -1,6 +1,5 @@
 use native.Mathlib.Omega.{arith}
 use Rattle.daybook_lines.proofs.Listings.{segment-written}
-use borrow.Author.Rules.{rules}
 use Rattle.daybook_lines.proofs.put_segment.Goals as goal
 
 pub returns : goal.returns

@@ -2,8 +2,7 @@
 use mathlib.Core.Path.{◌≡◌, refl, ◌∙◌}
 use lib.Seq.{length-take-le, get_or-take}
 use Rattle.reconstructor_segments.specs.Segments.{no_segment}
-use Rattle.daybook_lines.proofs.Listings.{Written, written_none, written_next, written_all}
-use Prim.Native.Nat.{◌≤◌, ◌-◌}
+use Rattle.daybook_lines.proofs.Listings.{written_none, written_next, written_all}
 use lib.ListN.{length, take}
 use native.Mathlib.Omega.{arith}
 use Rattle.daybook_lines.proofs.put_segments.Goals as goal

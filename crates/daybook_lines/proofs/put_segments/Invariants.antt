@@ -1,11 +1,8 @@
 -- The loop keeps the lines of the first `i` records written, from the text's start on, in no more room than as many of the longest take (`Written`).
-use mathlib.Core.Path.{◌≡◌, refl, ◌∙◌}
-use lib.Seq.{length-take-le, get_or-take}
-use Rattle.reconstructor_segments.specs.Segments.{no_segment}
-use Rattle.daybook_lines.proofs.Listings.{Written, written_none, written_next, written_all}
+use mathlib.Core.Path.{◌≡◌}
+use Rattle.daybook_lines.proofs.Listings.{Written}
 use Prim.Native.Nat.{◌≤◌, ◌-◌}
 use lib.ListN.{length, take}
-use native.Mathlib.Omega.{arith}
 use Rattle.daybook_lines.proofs.put_segments.Given as goal
 
 abbrev pub invariant-loop-i : goal.invariant-loop-i

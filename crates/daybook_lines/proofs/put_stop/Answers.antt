@@ -2,7 +2,6 @@ use native.Mathlib.Omega.{arith}
 use Rattle.daybook_lines.specs.Listed.{stop_line}
 use Rattle.text.proofs.Texts.{writes_nothing}
 use Rattle.daybook_lines.proofs.Listings.{stop-written}
-use borrow.Author.Rules.{rules}
 use Rattle.daybook_lines.proofs.put_stop.Goals as goal
 
 pub returns-in-Never : goal.returns-in-Never
