@@ -30,7 +30,7 @@ def read(path):
 
 
 def snake(name):
-    name = re.sub(r"(?<=[a-z0-9])([A-Z])", lambda m: "_" + m.group(1).lower(), name)
+    name = re.sub(r"(?<=[a-zA-Z0-9])([A-Z])", lambda m: "_" + m.group(1).lower(), name)
     return name
 
 

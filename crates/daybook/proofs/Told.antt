@@ -20,7 +20,7 @@ use Rattle.daybook_segments.specs.declared.Stop.{Stop}
 use Rattle.daybook_segments.specs.declared.Stop.TheVariants.{At}
 use Rattle.daybook_replay.specs.Replay.{day_of}
 use Rattle.daybook_lines.specs.Listed.{counts_in, counts_word, counts_line, stop_line, ending, segment_lines, listed}
-use Rattle.daybook.specs.Listing.{not_aDay_file, listing, ReplayCall, replay_called, replay_call}
+use Rattle.daybook.specs.Listing.{not_a_day_file, listing, ReplayCall, replay_called, replay_call}
 
 -- a number behind a space takes two bytes at least
 numbers-long : (ns : List ℕ) → 2 * length ns ≤ length (spaced (map decimal ns))
@@ -42,9 +42,9 @@ pub listing-long : (f : List ℕ) → 31 ≤ length (listing f)
 unfolding listing
 listing-long f = go (day_shaped f)
   where
-    go : (b : Bool) → 31 ≤ length (cond b (listed (day_of f)) (ending no_counts (At 0 not_aDay_file)))
+    go : (b : Bool) → 31 ≤ length (cond b (listed (day_of f)) (ending no_counts (At 0 not_a_day_file)))
     go true = listed-long (day_of f)
-    go false = ending-long no_counts (At 0 not_aDay_file)
+    go false = ending-long no_counts (At 0 not_a_day_file)
 
 -- 7 is said exactly where the slice is shorter than the listing
 pub seven-tells : (f out : List ℕ) → (replay_call f out).number ≡ 7 → length out < length (listing f)

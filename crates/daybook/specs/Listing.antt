@@ -7,12 +7,12 @@ use Rattle.daybook_replay.specs.Replay.{day_of}
 use Rattle.daybook_lines.specs.Listed.{ending, listed}
 
 -- 02, paper 1: "60, a file that breaks these rules or is longer"
-abbrev pub not_aDay_file : ℕ
-not_aDay_file = 60
+abbrev pub not_a_day_file : ℕ
+not_a_day_file = 60
 
 -- such a one is "listed as zero counts and `stop 0 60` before any piece is read"
 unfoldable pub listing : List ℕ → List ℕ
-listing f = cond (day_shaped f) (listed (day_of f)) (ending no_counts (At 0 not_aDay_file))
+listing f = cond (day_shaped f) (listed (day_of f)) (ending no_counts (At 0 not_a_day_file))
 
 -- what the call answers, and the host's slice afterwards
 pub record ReplayCall : Type 0 where

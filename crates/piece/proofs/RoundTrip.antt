@@ -67,7 +67,7 @@ message_not s h m fits e = go (event_in_range m.event) (sym (message-back m fits
 
 pub message_round_trip : MessageRoundTrip
 message_round_trip =
-    record { encoded = message-back; accepted = message-accepted; out_of_range = message-out; not_aPiece = message_not }
+    record { encoded = message-back; accepted = message-accepted; out_of_range = message-out; not_a_piece = message_not }
 
 -- ---- snapshots
 
@@ -127,5 +127,5 @@ snapshot_round_trip =
       encoded_out = snapshot-out;
       accepted = snapshot-accepted;
       out_of_range = snapshot-refused;
-      not_aPiece = snapshot_not;
+      not_a_piece = snapshot_not;
     }

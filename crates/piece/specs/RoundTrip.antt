@@ -22,7 +22,7 @@ pub record MessageRoundTrip : Type 0 where
   pub out_of_range : (s : List ℕ) → AllBytes s → read_message s ≡ Refused OutOfRange →
       (m : L3Message) × (message_bytes m ≡ s) × MessageFits m × (event_in_range m.event ≡ false)
   -- bytes that get 4 are no message's encoding
-  pub not_aPiece : (s : List ℕ) → read_message s ≡ Refused NotAPiece → (m : L3Message) → MessageFits m → message_bytes m ≡ s → ⊥
+  pub not_a_piece : (s : List ℕ) → read_message s ≡ Refused NotAPiece → (m : L3Message) → MessageFits m → message_bytes m ≡ s → ⊥
 
 -- the snapshot whose header the reader found, with the orders that it reads by place
 abbrev pub with_orders : List ℕ → L3Snapshot → Snapshot
@@ -43,4 +43,4 @@ pub record SnapshotRoundTrip : Type 0 where
       (snapshot_bytes (with_orders s h) ≡ s) × SnapshotFits (with_orders s h)
   pub out_of_range : (s : List ℕ) → AllBytes s → read_snapshot s ≡ RefusedSnapshot OutOfRange →
       (v : Snapshot) × (snapshot_bytes v ≡ s) × SnapshotFits v × (orders_in_range (v.bids ++ v.asks) ≡ false)
-  pub not_aPiece : (s : List ℕ) → read_snapshot s ≡ RefusedSnapshot NotAPiece → (v : Snapshot) → SnapshotFits v → snapshot_bytes v ≡ s → ⊥
+  pub not_a_piece : (s : List ℕ) → read_snapshot s ≡ RefusedSnapshot NotAPiece → (v : Snapshot) → SnapshotFits v → snapshot_bytes v ≡ s → ⊥
