@@ -26,7 +26,7 @@ use Rattle.reconstructor_checks.specs.StateChecks.{state_refusal, broken}
 use Rattle.reconstructor.specs.Applied.{applied_to, applied}
 use Rattle.reconstructor_handshake.specs.declared.StepAnswer.{StepAnswer}
 use Rattle.reconstructor_handshake.specs.declared.StepAnswer.TheVariants.{Stepped, OtherSegment}
-use Rattle.reconstructor_handshake.specs.Step.{other_segment, with, after, by_apply, dropped, step_refusal, unless_refused, StepWorked, put_back, stepped_to, stepped}
+use Rattle.reconstructor_handshake.specs.Step.{other_segment, after, by_apply, dropped, step_refusal, unless_refused, StepWorked, put_back, stepped_to, stepped}
 use Rattle.reconstructor_handshake_rules.specs.Drops.{drops}
 use Rattle.host_records.specs.Records.{records_of, relaid}
 use Rattle.reconstructor_answers.specs.Numbers.{answer_number}
