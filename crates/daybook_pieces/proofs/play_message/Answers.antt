@@ -1,0 +1,28 @@
+-- Bytes that are no message are 4 or 5 and touch nothing. A message's turn goes by `apply_in_run`, since the state passes 1, 2 and 3 and has an index, and
+-- leaves both for the next piece (`message-plays`).
+use mathlib.Core.Path.{refl, sym, ◌∙◌}
+use native.Mathlib.Omega.{arith}
+use Rattle.book.specs.Memory.{memory}
+use Rattle.reconstructor_state.specs.State.{ceiling}
+use Rattle.reconstructor_checks.proofs.StateChecks.{trusted_under}
+use Rattle.daybook_segments.specs.DaySegments.{day_segments}
+use Rattle.daybook_pieces.proofs.Pieces.{message-played, message-plays}
+use borrow.Author.Rules.{rules}
+use Rattle.daybook_pieces.proofs.play_message.Goals as goal
+
+pub apply_in_run-run-requires : goal.apply_in_run-run-requires
+apply_in_run-run-requires c =
+    let a = c.args in
+    record { trusted = trusted_under ceiling a.book (memory a.rows.now) day_segments (omega arith) c.requires.usable; indexed = c.requires.index }
+
+pub returns-in-Refused : goal.returns-in-Refused
+returns-in-Refused c =
+    let e = sym c.read_message.ensures.value ∙ c.in-Refused.is in
+    rw (e, c.unstarted.ensures, c.number.ensures) record { played = refl; plays = c.requires }
+
+pub returns-in-Message : goal.returns-in-Message
+returns-in-Message c =
+    let e = sym c.read_message.ensures.value ∙ c.in-Message.is in
+    let a = c.args in
+    let w = c.apply_in_run-run in
+    rw (e, c.unstarted-in-Message.ensures, c.number-in-Message.ensures) record { played = message-played a.book a.rows.now _ a.last _ w.result.work c.requires.usable w.ensures.applies; plays = message-plays a.book a.rows.now _ a.last _ w.result.work c.requires.usable w.ensures.applies _ _ w.ensures.indexes }
