@@ -1,5 +1,3 @@
-use borrow.Author.Tests.{not-true}
-use borrow.Author.Rules.{rules}
 use Rattle.daybook_pieces.proofs.index_after.Goals as goal
 
 pub returns-then-not-taken : goal.returns-then-not-taken

@@ -1,6 +1,5 @@
 use mathlib.Core.Path.{sym, ◌∙◌}
 use Rattle.daybook_pieces.specs.ByValue.{played_to}
-use borrow.Author.Rules.{rules}
 use Rattle.daybook_pieces.proofs.play.Goals as goal
 
 pub returns-then-is_snapshot : goal.returns-then-is_snapshot

@@ -7,7 +7,6 @@ use Rattle.reconstructor_state.specs.State.{ceiling}
 use Rattle.reconstructor_checks.proofs.StateChecks.{trusted_under}
 use Rattle.daybook_segments.specs.DaySegments.{day_segments}
 use Rattle.daybook_pieces.proofs.Pieces.{message-played, message-plays}
-use borrow.Author.Rules.{rules}
 use Rattle.daybook_pieces.proofs.play_message.Goals as goal
 
 pub apply_in_run-run-requires : goal.apply_in_run-run-requires

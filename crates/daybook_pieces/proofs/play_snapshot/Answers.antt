@@ -7,7 +7,6 @@ use Rattle.reconstructor_state.specs.State.{ceiling}
 use Rattle.reconstructor_checks.proofs.StateChecks.{usable_under}
 use Rattle.daybook_segments.specs.DaySegments.{day_segments}
 use Rattle.daybook_pieces.proofs.Pieces.{unread-played, snapshot-played, snapshot-plays, after-lent, after-marks}
-use borrow.Author.Rules.{rules}
 use Rattle.daybook_pieces.proofs.play_snapshot.Goals as goal
 
 pub bootstrap_usable-work-requires : goal.bootstrap_usable-work-requires
