@@ -2,13 +2,9 @@
 -- (`Loops`). A turn plays one piece (`after`) and files the record that it starts (`Keeps`); it stops the day (`loop-stops`) or goes on (`loop-next`).
 use native.Mathlib.Omega.{arith}
 use mathlib.Core.Path.{sym, ◌∙◌}
-use mathlib.Core.Logic.{⊎_elim}
-use borrow.Author.Rules.{rules}
-use borrow.Author.Tests.{not-true, not-false}
-use Rattle.daybook_file.proofs.Days.{few_bytes, pairs-inside, piece_inside, piece_cut}
-use Prim.Native.Nat.{◌-◌}
-use Rattle.daybook_file.specs.DayFile.{piece_count, piece_at}
-use Rattle.daybook_replay.proofs.Replays.{listed_few, Keeps, filed, apart, after, Loops, loop-start, loop-ends, loop-stops, loop-next}
+use Rattle.daybook_file.proofs.Days.{pairs-inside, piece_inside, piece_cut}
+use Rattle.daybook_file.specs.DayFile.{piece_at}
+use Rattle.daybook_replay.proofs.Replays.{listed_few, Keeps, filed, apart, after, loop-start, loop-ends, loop-stops, loop-next}
 use Rattle.daybook_replay.proofs.replay_pieces.Goals as goal
 use Rattle.daybook_replay.proofs.replay_pieces.Goals.{then-turn-lt-DAY_SEGMENTS, else-turn-lt-DAY_SEGMENTS}
 

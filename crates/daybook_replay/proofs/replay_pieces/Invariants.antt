@@ -1,14 +1,8 @@
 -- The loop keeps that what the file comes to is the replay of the pieces left, from piece `i` on, on the book as it is now, its last record apart from the list
 -- (`Loops`). A turn plays one piece (`after`) and files the record that it starts (`Keeps`); it stops the day (`loop-stops`) or goes on (`loop-next`).
-use native.Mathlib.Omega.{arith}
-use mathlib.Core.Path.{sym, ◌∙◌}
-use mathlib.Core.Logic.{⊎_elim}
-use borrow.Author.Rules.{rules}
-use borrow.Author.Tests.{not-true, not-false}
-use Rattle.daybook_file.proofs.Days.{few_bytes, pairs-inside, piece_inside, piece_cut}
 use Prim.Native.Nat.{◌-◌}
-use Rattle.daybook_file.specs.DayFile.{piece_count, piece_at}
-use Rattle.daybook_replay.proofs.Replays.{listed_few, Keeps, filed, apart, after, Loops, loop-start, loop-ends, loop-stops, loop-next}
+use Rattle.daybook_file.specs.DayFile.{piece_count}
+use Rattle.daybook_replay.proofs.Replays.{Loops}
 use Rattle.daybook_replay.proofs.replay_pieces.Given as goal
 
 abbrev pub invariant-loop-i : goal.invariant-loop-i
