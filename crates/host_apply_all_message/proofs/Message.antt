@@ -27,7 +27,7 @@ use Rattle.host_words.specs.Block.{state_words, book_of, message_of, restored, s
 use Rattle.host_word_tests.specs.WordTests.{no_book}
 use Rattle.host_message_tests.specs.MessageTests.{no_message}
 use Rattle.host_calls.specs.Calls.{called, after_apply, apply_call}
-use Rattle.reconstructor_checks.proofs.StateChecks.{usable, trusted_under}
+use Rattle.reconstructor_checks.proofs.StateChecks.{trusted_under}
 use Rattle.reconstructor.proofs.ByValue.{applied-trusted, applied-trusted_to}
 use Rattle.reconstructor.proofs.Kept.{usable-kept}
 use Rattle.host_boundary.proofs.Passed.{passes, wrong-number}
