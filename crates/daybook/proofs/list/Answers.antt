@@ -1,8 +1,6 @@
 use native.Mathlib.Omega.{arith}
 use mathlib.Core.Path.{sym, ◌∙◌}
-use borrow.Author.Tests.{not-true, not-false}
 use Rattle.daybook.specs.Listing.{listing}
-use borrow.Author.Rules.{rules}
 use Rattle.daybook.proofs.list.Goals as goal
 
 pub returns-then-not-day_shaped : goal.returns-then-not-day_shaped
