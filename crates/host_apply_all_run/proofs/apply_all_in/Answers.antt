@@ -1,0 +1,29 @@
+-- A usable state lends its rows, so they can be marked and bounded. All rows marked, all within the bounds and all ids distinct is an index of them
+-- (`runs-start`), which is what `apply_all_from` asks for besides what `Ready` has.
+use native.Mathlib.Omega.{arith}
+use borrow.Author.Rules.{rules}
+use Rattle.book.specs.Memory.{memory}
+use Rattle.reconstructor_state.specs.State.{ceiling}
+use Rattle.host_records.specs.Records.{records_in}
+use Rattle.reconstructor_checks.proofs.StateChecks.{rows-ready, trusted}
+use Rattle.host_apply_all_run.proofs.Runs.{runs-start}
+use Rattle.host_apply_all_run.proofs.apply_all_in.Goals as goal
+
+pub mark_rows-requires : goal.mark_rows-requires
+mark_rows-requires c =
+    let a = c.args in
+    let b = c.load_book-n in
+    (rows-ready ceiling b.result (memory a.rows.now) (omega arith) (trusted ceiling b.result (memory a.rows.now) (records_in a.segments.now) (rw b.ensures c.requires.ready.usable)), c.requires.places_len_bound)
+
+pub bounds_of-bounds-requires : goal.bounds_of-bounds-requires
+bounds_of-bounds-requires c =
+    let a = c.args in
+    let b = c.load_book-n in
+    rows-ready ceiling b.result (memory a.rows.now) (omega arith) (trusted ceiling b.result (memory a.rows.now) (records_in a.segments.now) (rw b.ensures c.requires.ready.usable))
+
+pub apply_all_from-requires : goal.apply_all_from-requires
+apply_all_from-requires c =
+    let a = c.args in
+    let b = c.load_book-n in
+    let k = c.mark_rows in
+    record { runs = runs-start a.state.now a.rows.now a.segments.now _ _ b.result b.ensures c.requires.ready.whole c.requires.ready.book c.requires.ready.usable (omega (arith, k.auto.places, c.requires.places_len_bound)) k.ensures c.bounds_of-bounds.ensures; messages_in_bounds = c.requires.ready.answered }
