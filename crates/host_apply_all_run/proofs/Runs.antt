@@ -19,7 +19,7 @@ use Rattle.host_records.specs.Records.{records_in}
 use Rattle.host_words.specs.Block.{state_words, book_of}
 use Rattle.host_word_tests.specs.WordTests.{no_book}
 use Rattle.host_calls.specs.Calls.{BookCall, called, apply_call}
-use Rattle.reconstructor_checks.proofs.StateChecks.{usable, sound}
+use Rattle.reconstructor_checks.proofs.StateChecks.{sound}
 use Rattle.host_apply_all_message.specs.Runs.{Runs}
 use Rattle.host_apply_all_run.specs.Run.{Run, then, run, ApplyAllCall, apply_all_called, count_of, after_run}
 

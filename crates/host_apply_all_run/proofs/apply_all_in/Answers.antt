@@ -1,7 +1,6 @@
 -- A usable state lends its rows, so they can be marked and bounded. All rows marked, all within the bounds and all ids distinct is an index of them
 -- (`runs-start`), which is what `apply_all_from` asks for besides what `Ready` has.
 use native.Mathlib.Omega.{arith}
-use borrow.Author.Rules.{rules}
 use Rattle.book.specs.Memory.{memory}
 use Rattle.reconstructor_state.specs.State.{ceiling}
 use Rattle.host_records.specs.Records.{records_in}
