@@ -1,4 +1,4 @@
-//! Links the proved library that `rt staticlib host` writes at the repository's root, or the one in the folder that PINUGLAW_LIB_DIR names.
+//! Links the proved library that `.ci/library host` writes, or the one in the folder that PINUGLAW_LIB_DIR names.
 
 use std::env;
 use std::path::{Path, PathBuf};
