@@ -191,12 +191,7 @@ pub fn pinuglaw_invalidation(state: &[u64], out: &mut [u64]) -> u64
 
 // The record of the segment at a place of the list, into ten words: its eight, its elapsed time, and how many messages it accepted. Answers 256, writing
 // nothing, where the book has none there or the list is too short for it.
-pub fn pinuglaw_segment(
-    state: &[u64],
-    segments: &[u64],
-    place: usize,
-    out: &mut [u64],
-) -> u64
+pub fn pinuglaw_segment(state: &[u64], segments: &[u64], place: usize, out: &mut [u64]) -> u64
     ensures { answered result out.new ≡ segment_call state.now segments.now place out.old }
 {
     host_views_segment::segment(state, segments, place, out)

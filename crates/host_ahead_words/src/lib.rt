@@ -8,10 +8,10 @@ ghost use Rattle.host_answers.specs.Answers.{answered, given, told_in};
 use host_answers::give;
 use queue::{AheadAnswer, Assumption, QueueAhead};
 
-fn assumption_word(assumption: Assumption) -> u64
-    ensures { result ≡ assumption_word assumption }
+fn assumption_word(first: Assumption) -> u64
+    ensures { result ≡ assumption_word first }
 {
-    match assumption {
+    match first {
         Assumption::BackOfVisibleQueueAtCreation => 0,
         Assumption::EntrySequenceIsPriority => 1,
         Assumption::SizeDecreaseKeepsPriority => 2,
@@ -27,7 +27,7 @@ fn flag_word(flag: bool) -> u64
 fn give_ahead(out: &mut [u64], a: QueueAhead) -> u64
     ensures { answered result out.new ≡ given (ahead_values a) out.old }
 {
-    let first = a.assumption;
+    let first = a.first_assumption;
     let assumption = assumption_word(first);
     let keeps = flag_word(a.keeps_priority);
     give(

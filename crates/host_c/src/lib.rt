@@ -71,7 +71,15 @@ pub extern "C" fn pinuglaw_new(
 ) -> u64
     ensures { answered result state.new ≡ new_call state.old product_high product_low size_decrease max_orders max_levels number }
 {
-    host::pinuglaw_new(state, product_high, product_low, size_decrease, max_orders, max_levels, number)
+    host::pinuglaw_new(
+        state,
+        product_high,
+        product_low,
+        size_decrease,
+        max_orders,
+        max_levels,
+        number,
+    )
 }
 
 // Applies a message of 21 words to the book whose state is the first 27 words of `state`; crate `host_words` has both layouts in specs/Block.antt.

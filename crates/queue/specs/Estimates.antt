@@ -126,7 +126,7 @@ queue_ahead at a own t =
       from_snapshot = t.from_snapshot;
       observed = t.observed;
       orders = t.orders;
-      assumption = a;
+      first_assumption = a;
       keeps_priority = own || t.decreased;
     }
 

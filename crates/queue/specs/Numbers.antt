@@ -62,7 +62,7 @@ flag_word false = 0
 
 abbrev pub ahead_values : QueueAhead → List ℕ
 ahead_values a =
-    a.at_seq ∷ a.volume ∷ a.from_snapshot ∷ a.observed ∷ a.orders ∷ assumption_word a.assumption ∷ flag_word a.keeps_priority ∷ []
+    a.at_seq ∷ a.volume ∷ a.from_snapshot ∷ a.observed ∷ a.orders ∷ assumption_word a.first_assumption ∷ flag_word a.keeps_priority ∷ []
 
 abbrev pub ahead_told : AheadAnswer → Told
 ahead_told (answers.Ahead a) = told 0 (ahead_values a)

@@ -63,7 +63,7 @@ pub struct QueueAhead {
     pub observed: u64,
     pub orders: usize,
     // The hypotheses the result rests on: the first, and whether SizeDecreaseKeepsPriority is a second.
-    pub assumption: Assumption,
+    pub first_assumption: Assumption,
     pub keeps_priority: bool,
 }
 

@@ -26,11 +26,11 @@ pub const LIST_BOUND: usize = 4096;
 fn tallied(
     rule: SizeDecrease,
     at_seq: u64,
-    assumption: Assumption,
+    first: Assumption,
     own: bool,
     t: Tally,
 ) -> AheadAnswer
-    ensures { result ≡ tallied rule at_seq assumption own t }
+    ensures { result ≡ tallied rule at_seq first own t }
 {
     if t.decreased & loses_place(rule) {
         return AheadAnswer::Refused(QueueError::PriorityUnknown);
@@ -41,7 +41,7 @@ fn tallied(
         from_snapshot: t.from_snapshot,
         observed: t.observed,
         orders: t.orders,
-        assumption,
+        first_assumption: first,
         keeps_priority: own | t.decreased,
     })
 }

@@ -230,7 +230,7 @@ figure at volume orders =
       from_snapshot = volume;
       observed = 0;
       orders = orders;
-      assumption = EntrySequenceIsPriority;
+      first_assumption = EntrySequenceIsPriority;
       keeps_priority = false;
     }
 

@@ -10,6 +10,4 @@ unfolding entry_at
 returns c =
     let p : to_z w64 (of_z w64 c.snapshot_order-order.result.price) ≡ c.snapshot_order-order.result.price = search rules in
     let q : to_z w64 (of_z w64 c.snapshot_order-order.result.size) ≡ c.snapshot_order-order.result.size = search rules in
-    
-    
     rw (c.snapshot_kind.ensures, c.side_at.ensures, c.size_of-2.ensures, c.size_of.ensures, p, q, c.snapshot_order-order.ensures)
