@@ -23,13 +23,7 @@ use reconstructor_view::SequenceAnswer;
 pub const LIST_BOUND: usize = 4096;
 
 // The answer that a tally gives.
-fn tallied(
-    rule: SizeDecrease,
-    at_seq: u64,
-    first: Assumption,
-    own: bool,
-    t: Tally,
-) -> AheadAnswer
+fn tallied(rule: SizeDecrease, at_seq: u64, first: Assumption, own: bool, t: Tally) -> AheadAnswer
     ensures { result ≡ tallied rule at_seq first own t }
 {
     if t.decreased & loses_place(rule) {
