@@ -1,5 +1,5 @@
 /*
- * Pinuglaw for C: the functions that crate `host` exports (`rt staticlib host` writes target/staticlib/libhost.a).
+ * Pinuglaw for C: the functions that crate `host_c` exports (`.ci/library host` writes target/staticlib/libhost.a).
  *
  * A book is memory that the caller owns: a state of PINUGLAW_STATE_WORDS, which pinuglaw_new writes, rows of PINUGLAW_ROW_WORDS an order, segment records of
  * PINUGLAW_SEGMENT_WORDS. A call keeps none of it, allocates nothing and always returns. Every slice is a pointer and a length in elements. What one call is

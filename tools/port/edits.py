@@ -1,5 +1,6 @@
 #!/usr/bin/env python3
-"""Bring the texts of must-fail edits to today's spelling, where the old: text no longer stands in its file. Prints those that it can't place."""
+"""Bring the texts of must-fail edits to today's spelling, where the old: text no longer stands in its file. Prints those that it can't place;
+what it turned is read by eye afterwards, the new: texts above all."""
 import glob
 import re
 

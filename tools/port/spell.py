@@ -3,7 +3,8 @@
 
 Definitions, fields and lemmas in camelCase become snake_case. In a lemma's name a dash stays where it joins the names of two things
 (`length-set_row`), and becomes `_` where it adds a plain word (`beyond-same` is `beyond_same`). Names of Rust items, exported names and the names of
-the kit keep their spelling. A name whose new spelling is taken keeps its old one; those are printed."""
+the kit keep their spelling. A name whose new spelling is taken keeps its old one; those are printed. It does not see where a
+parameter of a function in a .rt file now hides a definition of its name: the check does."""
 import collections
 import glob
 import re
