@@ -16,6 +16,7 @@ use message::L3Side;
 use reconstructor_state::BookReconstructor;
 
 // Without words for the estimate the list stays as it is lent too, and only a refusal goes before 7.
+#[tactic(auto, unfolding(reconstructor_view::specs::ValueReads::sequence_of, queue::specs::Estimates::estimated))]
 fn estimate_of(
     book: BookReconstructor,
     rows: &[u64],
