@@ -3,8 +3,9 @@
 
     check_declarations.py [ROOT]
 
-Names, order of parameters, widths, const or not; the numbers in force, their words and their definitions; the word layouts that a definition names field by field; the sizes and bounds, which
-the header, the code that runs, the definitions and the oracle name once each. Prints each difference; exits 1 if there is one, or if a file has nothing to
+Names, order of parameters, widths, const or not; each export's signature and clauses beside those of the function of crate `host` of its name; the numbers in
+force, their words and their definitions; the word layouts that a definition names field by field; the sizes and bounds, which the header, the code that runs, the
+definitions and the oracle name once each. Prints each difference; exits 1 if there is one, or if a file has nothing to
 compare.
 """
 
@@ -14,6 +15,7 @@ from pathlib import Path
 
 ROOT = Path(sys.argv[1] if len(sys.argv) > 1 else Path(__file__).resolve().parent.parent)
 HOST = "crates/host_c/src/lib.rt"
+LIBRARY = "crates/host/src/lib.rt"
 HEADER = "include/pinuglaw.h"
 SYS = "bindings/rust/src/sys.rs"
 SCOPE = "docs/01-scope.md"
@@ -40,6 +42,13 @@ def exported():
     pattern = r'#\[unsafe\(no_mangle\)\]\s*pub extern "C" fn (\w+)\((.*?)\)\s*->\s*(\w+)'
     found = re.findall(pattern, read(HOST), re.S)
     return {name: (parameters(inside), answer) for name, inside, answer in found}
+
+
+def promised(file, head):
+    """Function name to its signature and clauses, as a crate writes them after `head`."""
+    found = re.findall(head + r"fn (pinuglaw_\w+)(\(.*?)^\{$", read(file), re.S | re.M)
+    # a signature that stands on several lines is the same as one that fits a line
+    return {name: spaced(rest).replace("( ", "(").replace(", )", ")").replace(" )", ")") for name, rest in found}
 
 
 def in_c(parameter):
@@ -208,6 +217,10 @@ def differences(what, one, other):
 def all_differences():
     yield from differences(f"{HOST} and {HEADER}", expected_in_c(), in_header())
     yield from differences(f"{HOST} and {SYS}", exported(), in_sys())
+    library = promised(LIBRARY, r"^pub ")
+    yield from differences(f"{HOST} and {LIBRARY}", promised(HOST, r'^pub extern "C" '), library)
+    if len(library) != len(exported()):
+        yield f"{HOST} and {LIBRARY}: {len(exported())} functions are exported, {len(library)} are there"
     constants = header_constants()
     for what, part in [(SYS, sys_constants()), ("the state's words", state_words()), ("a record's words", segment_words())]:
         yield from differences(f"{what} and {HEADER}", part, {k: v for k, v in constants.items() if k in part})
