@@ -1,4 +1,4 @@
-//! The functions that crate `host` exports, and the words they speak in.
+//! The functions that crate `host_c` exports, and the words they speak in.
 //!
 //! Each function answers 0 or a number; `include/pinuglaw.h` says what each takes and writes, and which number comes before which. The wrappers here lend
 //! slices, nothing more: any words of any length may be handed over, and every call returns.

@@ -1,4 +1,4 @@
-//! The port, called as a host calls it: the functions that crate `host` exports, declared once in `pinuglaw::sys`. Every slice crosses by way of
+//! The port, called as a host calls it: the functions that crate `host_c` exports, declared once in `pinuglaw::sys`. Every slice crosses by way of
 //! [`lend`], which can lay it beside a protected page.
 
 pub mod lend;
