@@ -1,5 +1,6 @@
 -- What a well-formed book says of its rows, and what keeps a book well formed: an accepted open, a reduction, a removal, an accepted snapshot.
 -- Assumes nothing.
+use Rattle.std.specs.Prelude.{Option, Some, None}
 use Prim.Native.Nat.{ℕ, suc, ◌+◌, ◌*◌, ◌-◌, ◌≤◌, ◌<◌, ◌^◌}
 use mathlib.Core.Path.{◌≡◌, refl, sym, ap, ap₂, ◌∙◌}
 use mathlib.Core.Bool.{Bool, true, false, ◌||◌, cond}
@@ -15,9 +16,6 @@ use Rattle.message.specs.declared.L3Side.{L3Side}
 use Rattle.message.specs.declared.L3Side.TheVariants.{Buy, Sell}
 use Rattle.message.specs.declared.OrderId.{OrderId}
 use Rattle.message.specs.Same.{same_id}
-use Rattle.book.specs.declared.Decrease.{Decrease}
-use Rattle.book.specs.declared.Decrease.TheVariants.{Unmarked, Marked}
-use Rattle.book.specs.declared.Found.TheVariants.{At}
 use Rattle.book.specs.declared.Resting.{Resting}
 use Rattle.book.specs.Line.{Entry, rests, left, cut, same_level, volume, has_level, levels, crossed, would_cross}
 use Rattle.book.specs.Rows.{row_words, empty_row, Lent, most_rows, row_at, rows_from, rows_of, id_of, side_of, entry_of, line_of, find_row, remove_at, reduced, cut_rows, snapshot_kind, snapshot_row}
@@ -95,12 +93,12 @@ pub length-line : (os : List Resting) → length (line_of os) ≡ length os
 length-line [] = refl
 length-line (o ∷ os) = ap suc (length-line os)
 
-reduced-entry : (o : Resting) (r : ℕ) (mark : Decrease) → entry_of (reduced o r mark) ≡ left (entry_of o) r
-reduced-entry o r Unmarked = refl
-reduced-entry o r (Marked t) = refl
+reduced-entry : (o : Resting) (r : ℕ) (mark : Option ℕ) → entry_of (reduced o r mark) ≡ left (entry_of o) r
+reduced-entry o r None = refl
+reduced-entry o r (Some t) = refl
 
 -- the rules' cut is the rows' cut
-pub line_cut : (d : OrderId) (r : ℕ) (mark : Decrease) (os : List Resting) → line_of (cut_rows d r mark os) ≡ cut d r (line_of os)
+pub line_cut : (d : OrderId) (r : ℕ) (mark : Option ℕ) (os : List Resting) → line_of (cut_rows d r mark os) ≡ cut d r (line_of os)
 line_cut d r mark [] = refl
 line_cut d r mark (o ∷ os) = go (same_id (id_of o) d) (eqb r 0) (line_cut d r mark os)
   where
@@ -201,7 +199,7 @@ module _ (mo ml : ℕ) (os : List Resting) (i : ℕ) (w : WellFormed mo ml os) (
         apart = ap (λ (y : List Resting). crossed (line_of y)) r ∙ ap crossed e ∙ (or_no (would_cross x.side x.price l) (crossed l) (sym (crossed-front x l) ∙ f.apart)).1;
       }
 
-  pub reduce-kept : (r : ℕ) (mark : Decrease) → 0 < r → r ≤ (at_place os i).remaining → WellFormed mo ml (set os i (reduced (at_place os i) r mark))
+  pub reduce-kept : (r : ℕ) (mark : Option ℕ) → 0 < r → r ≤ (at_place os i).remaining → WellFormed mo ml (set os i (reduced (at_place os i) r mark))
   reduce-kept r mark p q =
       let s = sound-place in
       let e : set os i (reduced (at_place os i) r mark) ≡ take i os ++ (reduced (at_place os i) r mark ∷ drop (suc i) os) = set_split os i _ h in
@@ -214,20 +212,20 @@ module _ (mo ml : ℕ) (os : List Resting) (i : ℕ) (w : WellFormed mo ml os) (
         apart = ap (λ (y : List Resting). crossed (line_of y)) e ∙ k.apart;
       }
     where
-      same : (m : Decrease) → Fits ml (entry_of (at_place os i) ∷ (line_of (take i os) ++ line_of (drop (suc i) os)))
+      same : (m : Option ℕ) → Fits ml (entry_of (at_place os i) ∷ (line_of (take i os) ++ line_of (drop (suc i) os)))
           → Fits ml (entry_of (reduced (at_place os i) r m) ∷ (line_of (take i os) ++ line_of (drop (suc i) os)))
-      same Unmarked f = record { single = f.single; flat = f.flat; apart = f.apart }
-      same (Marked t) f = record { single = f.single; flat = f.flat; apart = f.apart }
+      same None f = record { single = f.single; flat = f.flat; apart = f.apart }
+      same (Some t) f = record { single = f.single; flat = f.flat; apart = f.apart }
 
       left_over : SoundRow (at_place os i) → InRange r
       left_over t = record { low = p; high = omega (arith, q, t.remaining.high) }
 
-      sound : (m : Decrease) → SoundRow (at_place os i) → SoundRow (reduced (at_place os i) r m)
-      sound Unmarked t = record { kind = t.kind; price = t.price; remaining = left_over t; flag = t.flag }
-      sound (Marked u) t = record { kind = t.kind; price = t.price; remaining = left_over t; flag = refl }
+      sound : (m : Option ℕ) → SoundRow (at_place os i) → SoundRow (reduced (at_place os i) r m)
+      sound None t = record { kind = t.kind; price = t.price; remaining = left_over t; flag = t.flag }
+      sound (Some u) t = record { kind = t.kind; price = t.price; remaining = left_over t; flag = refl }
 
 -- the order that a search found loses size, and leaves at zero
-pub cut-kept : (mo ml : ℕ) (ws : List ℕ) (n : ℕ) (d : OrderId) (i r : ℕ) (mark : Decrease) → WellFormed mo ml (rows_of ws n) → find_row (rows_of ws n) d 0 ≡ At i
+pub cut-kept : (mo ml : ℕ) (ws : List ℕ) (n : ℕ) (d : OrderId) (i r : ℕ) (mark : Option ℕ) → WellFormed mo ml (rows_of ws n) → find_row (rows_of ws n) d 0 ≡ Some i
     → r ≤ (row_at ws i).remaining → WellFormed mo ml (cut_rows d r mark (rows_of ws n))
 cut-kept mo ml ws n d i r mark w h q = go (eqb r 0) refl
   where

@@ -1,10 +1,10 @@
 -- What the tests of number 3 say of a line does not depend on where an order stands in it: each law brings an order to the front.
 -- Assumes nothing.
+use Rattle.std.specs.Prelude.{Option, Some, None}
 use Prim.Native.Nat.{ℕ, suc, max, min, ◌≤◌}
 use mathlib.Core.Path.{◌≡◌, refl, sym, ap, ap₂, ◌∙◌}
 use mathlib.Core.Bool.{Bool, true, false, ◌&&◌, ◌||◌, cond}
 use mathlib.Core.List.{List, [], ◌∷◌, ◌++◌, append-nil}
-use mathlib.Core.Option.{some}
 use native.Mathlib.Omega.{arith}
 use lib.Dec.{eqb, ltb, leb}
 use lib.ListN.{length}
@@ -14,8 +14,6 @@ use Rattle.message.specs.declared.L3Side.{L3Side}
 use Rattle.message.specs.declared.L3Side.TheVariants.{Buy, Sell}
 use Rattle.message.specs.declared.OrderId.{OrderId}
 use Rattle.message.specs.Same.{same_side, same_id}
-use Rattle.book.specs.declared.BestPrice.{BestPrice}
-use Rattle.book.specs.declared.BestPrice.TheVariants.{Price, NoPrice}
 use Rattle.book.specs.Line.{Entry, find, present, rests, same_level, has_level, levels, ahead, better, best, meet, crossed, would_cross}
 use Rattle.book.specs.Broken.{id_twice}
 
@@ -29,7 +27,7 @@ id_swap a b = ap₂ ◌&&◌ (eqb_swap a.high b.high) (eqb_swap a.low b.low)
 pub rests-front : (d : OrderId) (x : Entry) (l : List Entry) → rests d (x ∷ l) ≡ (same_id x.id d || rests d l)
 rests-front d x l = go (same_id x.id d)
   where
-    go : (b : Bool) → present (cond b (some x) (find d l)) ≡ (b || rests d l)
+    go : (b : Bool) → present (cond b (Some x) (find d l)) ≡ (b || rests d l)
     go true = refl
     go false = refl
 
@@ -143,10 +141,10 @@ ahead-three : (s : L3Side) (p q r : ℕ) → ahead_of s p (ahead_of s q r) ≡ a
 ahead-three Buy p q r = omega arith
 ahead-three Sell p q r = omega arith
 
-better_swap : (s : L3Side) (p q : ℕ) (r : BestPrice) → better s p (better s q r) ≡ better s q (better s p r)
-better_swap s p q NoPrice = ap Price (ahead_is s p q ∙ ahead_two s p q ∙ sym (ahead_is s q p))
-better_swap s p q (Price r) =
-    ap Price
+better_swap : (s : L3Side) (p q : ℕ) (r : Option ℕ) → better s p (better s q r) ≡ better s q (better s p r)
+better_swap s p q None = ap Some (ahead_is s p q ∙ ahead_two s p q ∙ sym (ahead_is s q p))
+better_swap s p q (Some r) =
+    ap Some
     (ap (λ x. cond (ahead s p x) p x) (ahead_is s q r)
     ∙ ahead_is s p (ahead_of s q r)
     ∙ ahead-three s p q r
@@ -156,7 +154,7 @@ best-move : (s : L3Side) (b : List Entry) (x : Entry) (a : List Entry) → best 
 best-move s [] x a = refl
 best-move s (y ∷ b) x a = rw (best-move s b x a) (go (same_side y.side s) (same_side x.side s) (best s (b ++ a)))
   where
-    go : (t u : Bool) (r : BestPrice)
+    go : (t u : Bool) (r : Option ℕ)
         → cond t (better s y.price (cond u (better s x.price r) r)) (cond u (better s x.price r) r)
         ≡ cond u (better s x.price (cond t (better s y.price r) r)) (cond t (better s y.price r) r)
     go true true r = better_swap s y.price x.price r
@@ -168,29 +166,29 @@ pub crossed-move : (b : List Entry) (x : Entry) (a : List Entry) → crossed (b 
 crossed-move b x a = ap₂ meet (best-move Buy b x a) (best-move Sell b x a)
 
 -- a buy at a price meets where that price or the rest does
-meet_buy : (p : ℕ) (b a : BestPrice) → meet (better Buy p b) a ≡ (meet (Price p) a || meet b a)
-meet_buy p NoPrice NoPrice = refl
-meet_buy p NoPrice (Price a) = go (leb a p)
+meet_buy : (p : ℕ) (b a : Option ℕ) → meet (better Buy p b) a ≡ (meet (Some p) a || meet b a)
+meet_buy p None None = refl
+meet_buy p None (Some a) = go (leb a p)
   where
     go : (t : Bool) → t ≡ (t || false)
     go true = refl
     go false = refl
-meet_buy p (Price b) NoPrice = refl
-meet_buy p (Price b) (Price a) = ap (leb a) (ahead_is Buy p b) ∙ go (leb a p) (leb a b) refl refl
+meet_buy p (Some b) None = refl
+meet_buy p (Some b) (Some a) = ap (leb a) (ahead_is Buy p b) ∙ go (leb a p) (leb a b) refl refl
   where
     go : (s t : Bool) → leb a p ≡ s → leb a b ≡ t → leb a (max p b) ≡ (s || t)
     go true t e f = le-leb a (max p b) (omega (arith, leb-true a p e))
     go false true e f = le-leb a (max p b) (omega (arith, leb-true a b f))
     go false false e f = lt-leb a (max p b) (omega (arith, leb-false a p e, leb-false a b f))
 
-meet_sell : (p : ℕ) (b a : BestPrice) → meet b (better Sell p a) ≡ (meet b (Price p) || meet b a)
-meet_sell p NoPrice a = refl
-meet_sell p (Price b) NoPrice = go (leb p b)
+meet_sell : (p : ℕ) (b a : Option ℕ) → meet b (better Sell p a) ≡ (meet b (Some p) || meet b a)
+meet_sell p None a = refl
+meet_sell p (Some b) None = go (leb p b)
   where
     go : (t : Bool) → t ≡ (t || false)
     go true = refl
     go false = refl
-meet_sell p (Price b) (Price a) = ap (λ x. leb x b) (ahead_is Sell p a) ∙ go (leb p b) (leb a b) refl refl
+meet_sell p (Some b) (Some a) = ap (λ x. leb x b) (ahead_is Sell p a) ∙ go (leb p b) (leb a b) refl refl
   where
     go : (s t : Bool) → leb p b ≡ s → leb a b ≡ t → leb (min p a) b ≡ (s || t)
     go true t e f = le-leb (min p a) b (omega (arith, leb-true p b e))

@@ -1,10 +1,10 @@
 -- What the code does to the words, as `stored`: a row joined, a row rewritten, a row taken out; and what a search tells.
 -- Assumes nothing.
+use Rattle.std.specs.Prelude.{Option, Some, None}
 use Prim.Native.Nat.{ℕ, zero, suc, ◌+◌, ◌*◌, ◌-◌, ◌<◌, ◌≤◌, max}
 use mathlib.Core.Path.{◌≡◌, refl, sym, ap, ap₂, ◌∙◌}
 use mathlib.Core.Bool.{Bool, true, false, cond}
 use mathlib.Core.List.{List, [], ◌∷◌, ◌++◌, append_assoc, append-nil}
-use mathlib.Core.Option.{none, some}
 use native.Mathlib.Nat.{add-zero, zero-add, sub-zero}
 use native.Mathlib.Numerals.{add-one}
 use native.Mathlib.Omega.{arith}
@@ -13,8 +13,6 @@ use lib.ListN.{length, get_or, drop, set, replicate, length-append, length-drop,
 use lib.Seq.{drop-cons, get_or-append-add}
 use Rattle.message.specs.declared.OrderId.{OrderId}
 use Rattle.message.specs.Same.{same_id}
-use Rattle.book.specs.declared.Found.TheVariants.{At, Nothing}
-use Rattle.book.specs.declared.Decrease.{Decrease}
 use Rattle.book.specs.declared.Resting.{Resting}
 use Rattle.book.specs.Line.{find}
 use Rattle.book.specs.Rows.{row_words, empty_row, row_at, rows_from, rows_of, set_row, words_of, encode_all, stored, remove_at, id_of, entry_of, line_of, find_row, reduced, cut_rows}
@@ -126,16 +124,16 @@ length-stored ws n os h k =
 -- element i is the first of that id
 record First (os : List Resting) (d : OrderId) (i : ℕ) : Type 0 where
   inside : i < length os
-  entry : find d (line_of os) ≡ some (entry_of (get_or os i empty_row))
-  gone : (mark : Decrease) → cut_rows d 0 mark os ≡ remove_at os i
-  left : (r : ℕ) (mark : Decrease) → eqb r 0 ≡ false → cut_rows d r mark os ≡ set os i (reduced (get_or os i empty_row) r mark)
+  entry : find d (line_of os) ≡ Some (entry_of (get_or os i empty_row))
+  gone : (mark : Option ℕ) → cut_rows d 0 mark os ≡ remove_at os i
+  left : (r : ℕ) (mark : Option ℕ) → eqb r 0 ≡ false → cut_rows d r mark os ≡ set os i (reduced (get_or os i empty_row) r mark)
 
-first_at : (os : List Resting) (d : OrderId) (k j : ℕ) → find_row os d k ≡ At j → (k ≤ j) × First os d (j - k)
+first_at : (os : List Resting) (d : OrderId) (k j : ℕ) → find_row os d k ≡ Some j → (k ≤ j) × First os d (j - k)
 first_at [] d k j h = let z : ◌≡◌ {A = ℕ} 0 1 = cc in absurd (omega arith)
 first_at (o ∷ os) d k j h = go (same_id (id_of o) d) refl h (first_at os d (k + 1) j)
   where
-    go : (b : Bool) → same_id (id_of o) d ≡ b → cond b (At k) (find_row os d (k + 1)) ≡ At j
-        → (find_row os d (k + 1) ≡ At j → (k + 1 ≤ j) × First os d (j - (k + 1))) → (k ≤ j) × First (o ∷ os) d (j - k)
+    go : (b : Bool) → same_id (id_of o) d ≡ b → cond b (Some k) (find_row os d (k + 1)) ≡ Some j
+        → (find_row os d (k + 1) ≡ Some j → (k + 1 ≤ j) × First os d (j - (k + 1))) → (k ≤ j) × First (o ∷ os) d (j - k)
     go true t h ih =
         let e : k ≡ j = cc in
         let z : j - k ≡ 0 = omega arith in
@@ -156,28 +154,28 @@ first_at (o ∷ os) d k j h = go (same_id (id_of o) d) refl h (first_at os d (k 
 -- row i is the first of that id
 pub record FoundAt (ws : List ℕ) (n : ℕ) (d : OrderId) (i : ℕ) : Type 0 where
   pub inside : i < n
-  pub entry : find d (line_of (rows_of ws n)) ≡ some (entry_of (row_at ws i))
-  pub gone : (mark : Decrease) → cut_rows d 0 mark (rows_of ws n) ≡ remove_at (rows_of ws n) i
-  pub left : (r : ℕ) (mark : Decrease) → eqb r 0 ≡ false
+  pub entry : find d (line_of (rows_of ws n)) ≡ Some (entry_of (row_at ws i))
+  pub gone : (mark : Option ℕ) → cut_rows d 0 mark (rows_of ws n) ≡ remove_at (rows_of ws n) i
+  pub left : (r : ℕ) (mark : Option ℕ) → eqb r 0 ≡ false
       → cut_rows d r mark (rows_of ws n) ≡ set (rows_of ws n) i (reduced (row_at ws i) r mark)
 
-pub found_at : (ws : List ℕ) (n : ℕ) (d : OrderId) (i : ℕ) → find_row (rows_of ws n) d 0 ≡ At i → FoundAt ws n d i
+pub found_at : (ws : List ℕ) (n : ℕ) (d : OrderId) (i : ℕ) → find_row (rows_of ws n) d 0 ≡ Some i → FoundAt ws n d i
 found_at ws n d i h =
     let f = rw sub-zero at (first_at (rows_of ws n) d 0 i h).1 in
     let q : i < n = omega (arith, f.inside, length-rows ws 0 n) in
     let e : get_or (rows_of ws n) i empty_row ≡ row_at ws i = get_d_rows ws n i empty_row q in
     record {
       inside = q;
-      entry = f.entry ∙ ap (λ (o : Resting). some (entry_of o)) e;
+      entry = f.entry ∙ ap (λ (o : Resting). Some (entry_of o)) e;
       gone = f.gone;
       left = λ r mark z. f.left r mark z ∙ ap (λ (o : Resting). set (rows_of ws n) i (reduced o r mark)) e;
     }
 
-pub found_none : (os : List Resting) (d : OrderId) (k : ℕ) → find_row os d k ≡ Nothing → find d (line_of os) ≡ none
+pub found_none : (os : List Resting) (d : OrderId) (k : ℕ) → find_row os d k ≡ None → find d (line_of os) ≡ None
 found_none [] d k h = refl
 found_none (o ∷ os) d k h = go (same_id (id_of o) d) h (found_none os d (k + 1))
   where
-    go : (b : Bool) → cond b (At k) (find_row os d (k + 1)) ≡ Nothing → (find_row os d (k + 1) ≡ Nothing → find d (line_of os) ≡ none)
-        → cond b (some (entry_of o)) (find d (line_of os)) ≡ none
+    go : (b : Bool) → cond b (Some k) (find_row os d (k + 1)) ≡ None → (find_row os d (k + 1) ≡ None → find d (line_of os) ≡ None)
+        → cond b (Some (entry_of o)) (find d (line_of os)) ≡ None
     go true h ih = let z : ◌≡◌ {A = ℕ} 0 1 = cc in absurd (omega arith)
     go false h ih = ih h

@@ -1,12 +1,9 @@
 -- The line of orders, oldest first: what the rules go by. 01, The ledger: "line of orders (id, side, price, remaining)".
-use Rattle.std.specs.Prelude.{ℕ, suc, ◌+◌, Bool, true, false, ◌||◌, ◌&&◌, cond, List, [], ◌∷◌, leb, ltb, eqb}
-use Rattle.std.proofs.Math.Option.{Option, none, some}
+use Rattle.std.specs.Prelude.{ℕ, suc, ◌+◌, Bool, true, false, ◌||◌, ◌&&◌, cond, List, [], ◌∷◌, leb, ltb, eqb, Option, Some, None}
 use Rattle.message.specs.declared.L3Side.{L3Side}
 use Rattle.message.specs.declared.L3Side.TheVariants.{Buy, Sell}
 use Rattle.message.specs.declared.OrderId.{OrderId}
 use Rattle.message.specs.Same.{same_side, same_id}
-use Rattle.book.specs.declared.BestPrice.{BestPrice}
-use Rattle.book.specs.declared.BestPrice.TheVariants.{Price, NoPrice}
 
 pub record Entry : Type 0 where
   pub id : OrderId
@@ -18,12 +15,12 @@ pub record Entry : Type 0 where
 
 -- the order of that id (the first, were there two)
 abbrev pub find : OrderId → List Entry → Option Entry
-find d [] = none
-find d (e ∷ l) = cond (same_id e.id d) (some e) (find d l)
+find d [] = None
+find d (e ∷ l) = cond (same_id e.id d) (Some e) (find d l)
 
 abbrev pub present : Option Entry → Bool
-present none = false
-present (some e) = true
+present None = false
+present (Some e) = true
 
 -- whether the id rests
 abbrev pub rests : OrderId → List Entry → Bool
@@ -81,20 +78,20 @@ abbrev pub ahead : L3Side → ℕ → ℕ → Bool
 ahead Buy p q = ltb q p
 ahead Sell p q = ltb p q
 
-abbrev pub better : L3Side → ℕ → BestPrice → BestPrice
-better s p NoPrice = Price p
-better s p (Price q) = Price (cond (ahead s p q) p q)
+abbrev pub better : L3Side → ℕ → Option ℕ → Option ℕ
+better s p None = Some p
+better s p (Some q) = Some (cond (ahead s p q) p q)
 
 -- the best price of a side
-abbrev pub best : L3Side → List Entry → BestPrice
-best s [] = NoPrice
+abbrev pub best : L3Side → List Entry → Option ℕ
+best s [] = None
 best s (e ∷ l) = cond (same_side e.side s) (better s e.price (best s l)) (best s l)
 
 -- a best buy at or above a best sell
-abbrev pub meet : BestPrice → BestPrice → Bool
-meet NoPrice a = false
-meet (Price b) NoPrice = false
-meet (Price b) (Price a) = leb a b
+abbrev pub meet : Option ℕ → Option ℕ → Bool
+meet None a = false
+meet (Some b) None = false
+meet (Some b) (Some a) = leb a b
 
 -- 01, number 3: "best buy ≥ best sell"
 abbrev pub crossed : List Entry → Bool
@@ -102,5 +99,5 @@ crossed l = meet (best Buy l) (best Sell l)
 
 -- 01, number 41: "open would cross"
 abbrev pub would_cross : L3Side → ℕ → List Entry → Bool
-would_cross Buy p l = meet (Price p) (best Sell l)
-would_cross Sell p l = meet (best Buy l) (Price p)
+would_cross Buy p l = meet (Some p) (best Sell l)
+would_cross Sell p l = meet (best Buy l) (Some p)

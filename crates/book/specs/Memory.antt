@@ -1,7 +1,6 @@
 -- The memory that a book is laid out in, what an accepted call does to the orders, and what that leaves in the memory.
-use Rattle.std.specs.Prelude.{ℕ, ◌≤◌, List, [], ◌∷◌, ◌++◌, map, length, take, drop}
+use Rattle.std.specs.Prelude.{ℕ, ◌≤◌, List, [], ◌∷◌, ◌++◌, map, length, take, drop, Option}
 use Rattle.message.specs.declared.OrderId.{OrderId}
-use Rattle.book.specs.declared.Decrease.{Decrease}
 use Rattle.book.specs.declared.Resting.{Resting}
 use Rattle.book.specs.Line.{Entry, cut}
 use Rattle.book.specs.Rows.{rows_of, line_of, stored, cut_rows, snapshot_row, observed_row}
@@ -50,7 +49,7 @@ line_in m n = line_of (orders_of m n)
 pub data Effect : Type 0 where
   keep : Effect
   join : ℕ → Entry → Effect
-  cut_to : OrderId → ℕ → Decrease → Effect
+  cut_to : OrderId → ℕ → Option ℕ → Effect
   snapshot : ℕ → List Entry → Effect
 
 -- to the line

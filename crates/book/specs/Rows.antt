@@ -1,15 +1,11 @@
 -- Rows of eight words, the orders that they stand for, and what a change of the orders leaves in the words.
 -- 01, Rows and pieces: "Row memory is 64-bit words, eight a row, in order of arrival: id high, id low, price, remaining, kind (0 buy snapshot,
 -- 1 sell snapshot, 2 buy observed, 3 sell observed), entered_at, decreased flag (0 or 1), decreased_at (0 without flag)."
-use Rattle.std.specs.Prelude.{ℕ, zero, suc, ◌+◌, ◌*◌, ◌-◌, ◌%◌, ◌≤◌, max, cond, List, [], ◌∷◌, ◌++◌, map, length, get_or, take, drop, replicate, eqb}
+use Rattle.std.specs.Prelude.{ℕ, zero, suc, ◌+◌, ◌*◌, ◌-◌, ◌%◌, ◌≤◌, max, cond, List, [], ◌∷◌, ◌++◌, map, length, get_or, take, drop, replicate, eqb, Option, Some, None}
 use Rattle.message.specs.declared.L3Side.{L3Side}
 use Rattle.message.specs.declared.L3Side.TheVariants.{Buy, Sell}
 use Rattle.message.specs.declared.OrderId.{OrderId}
 use Rattle.message.specs.Same.{same_id}
-use Rattle.book.specs.declared.Found.{Found}
-use Rattle.book.specs.declared.Found.TheVariants.{At, Nothing}
-use Rattle.book.specs.declared.Decrease.{Decrease}
-use Rattle.book.specs.declared.Decrease.TheVariants.{Unmarked, Marked}
 use Rattle.book.specs.declared.Resting.{Resting}
 use Rattle.book.specs.Line.{Entry}
 
@@ -95,9 +91,9 @@ line_of os = map entry_of os
 -- ---- search and change
 
 -- the place of the first order of that id, counted from i
-abbrev pub find_row : List Resting → OrderId → ℕ → Found
-find_row [] d i = Nothing
-find_row (o ∷ os) d i = cond (same_id (id_of o) d) (At i) (find_row os d (i + 1))
+abbrev pub find_row : List Resting → OrderId → ℕ → Option ℕ
+find_row [] d i = None
+find_row (o ∷ os) d i = cond (same_id (id_of o) d) (Some i) (find_row os d (i + 1))
 
 -- the list without element i
 abbrev pub remove_at : List Resting → ℕ → List Resting
@@ -106,8 +102,8 @@ remove_at (o ∷ os) zero = os
 remove_at (o ∷ os) (suc i) = o ∷ remove_at os i
 
 -- an order with r left. 01, Match: "A match never marks a decrease"; Change: "smaller reduces and sets decreased_at"
-abbrev pub reduced : Resting → ℕ → Decrease → Resting
-reduced o r Unmarked =
+abbrev pub reduced : Resting → ℕ → Option ℕ → Resting
+reduced o r None =
     record {
       high = o.high;
       low = o.low;
@@ -118,7 +114,7 @@ reduced o r Unmarked =
       decreased = o.decreased;
       decreased_at = o.decreased_at;
     }
-reduced o r (Marked t) =
+reduced o r (Some t) =
     record {
       high = o.high;
       low = o.low;
@@ -131,7 +127,7 @@ reduced o r (Marked t) =
     }
 
 -- the order of that id has r left, and leaves at zero: `cut` of specs/Line.antt on rows
-abbrev pub cut_rows : OrderId → ℕ → Decrease → List Resting → List Resting
+abbrev pub cut_rows : OrderId → ℕ → Option ℕ → List Resting → List Resting
 cut_rows d r mark [] = []
 cut_rows d r mark (o ∷ os) =
     cond (same_id (id_of o) d) (cond (eqb r 0) os (reduced o r mark ∷ os)) (o ∷ cut_rows d r mark os)

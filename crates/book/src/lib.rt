@@ -12,27 +12,6 @@ pub const ROW_WORDS: usize = 8;
 // The most rows that the functions here are lent: a sum of so many amounts fits a word.
 pub const MOST_ROWS: usize = 4096;
 
-// The answer of a search.
-#[derive(Clone, Copy)]
-pub enum Found {
-    At(usize),
-    Nothing,
-}
-
-// The best price of a side, if it has orders.
-#[derive(Clone, Copy)]
-pub enum BestPrice {
-    Price(u64),
-    NoPrice,
-}
-
-// Whether a reduction marks the order as decreased, and at which sequence.
-#[derive(Clone, Copy)]
-pub enum Decrease {
-    Unmarked,
-    Marked(u64),
-}
-
 // A resting order: the eight words of its row, in their order.
 #[derive(Clone, Copy)]
 pub struct Resting {

@@ -5,7 +5,7 @@ ghost use Rattle.std.specs.Prelude.{◌≡◌};
 ghost use Rattle.book.specs.Rows.{Lent, rows_of};
 ghost use Rattle.book_valid.specs.Audit.{some_empty, audit_of};
 
-use book_valid::AuditAnswer;
+use book_valid::AuditFinding;
 
 // Whether one of `n` rows has nothing left.
 fn some_empty(rows: &[u64], n: usize) -> bool
@@ -24,26 +24,26 @@ fn some_empty(rows: &[u64], n: usize) -> bool
 }
 
 // Recomputes the book's invariants: positive sizes, each id once, not crossed.
-pub fn audit(rows: &[u64], n: usize) -> AuditAnswer
+pub fn audit(rows: &[u64], n: usize) -> Result<(), AuditFinding>
     ensures { result ≡ audit_of rows.now n }
 {
     if book::MOST_ROWS < n {
-        return AuditAnswer::NotLent;
+        return Err(AuditFinding::NotLent);
     }
     if rows.len() < book::ROW_WORDS * n {
-        return AuditAnswer::NotLent;
+        return Err(AuditFinding::NotLent);
     }
     if some_empty(rows, n) {
-        return AuditAnswer::SizeNotPositive;
+        return Err(AuditFinding::SizeNotPositive);
     }
     if book_keys::id_twice(rows, n) {
-        return AuditAnswer::IdTwice;
+        return Err(AuditFinding::IdTwice);
     }
     if book_prices::meet(
         book_prices::best_bid(rows, n),
         book_prices::best_ask(rows, n),
     ) {
-        return AuditAnswer::Crossed;
+        return Err(AuditFinding::Crossed);
     }
-    AuditAnswer::Ok
+    Ok(())
 }

@@ -4,7 +4,7 @@
 ghost use Rattle.std.specs.Prelude.{◌≡◌, [], ◌∷◌, ◌++◌, ◌+◌, ◌*◌, ◌≤◌, ◌<◌, length, set};
 ghost use Rattle.book.specs.Rows.{Lent, row_words, most_rows, empty_row, row_at, rows_of, stored, remove_at, reduced};
 
-use book::{Decrease, Resting};
+use book::Resting;
 
 // Adds an order after `n` rows: it joins the back of its level. The caller has checked that its id is new and that there is room.
 pub fn insert(rows: &mut [u64], n: usize, order: Resting)
@@ -15,14 +15,14 @@ pub fn insert(rows: &mut [u64], n: usize, order: Resting)
 }
 
 // An order with `remaining` left, and its mark of a decrease.
-fn reduced(order: Resting, remaining: u64, mark: Decrease) -> Resting
+fn reduced(order: Resting, remaining: u64, mark: Option<u64>) -> Resting
     ensures { result ≡ reduced order remaining mark }
 {
     let mut o = order;
     o.remaining = remaining;
     match mark {
-        Decrease::Unmarked => o,
-        Decrease::Marked(at) => {
+        None => o,
+        Some(at) => {
             o.decreased = 1;
             o.decreased_at = at;
             o
@@ -31,7 +31,7 @@ fn reduced(order: Resting, remaining: u64, mark: Decrease) -> Resting
 }
 
 // Row `i` of `n` has `remaining` left. The caller has checked that the size is positive.
-pub fn reduce(rows: &mut [u64], n: usize, i: usize, remaining: u64, mark: Decrease)
+pub fn reduce(rows: &mut [u64], n: usize, i: usize, remaining: u64, mark: Option<u64>)
     requires { Lent rows.old n × (i < n) }
     ensures { rows.new ≡ stored rows.old n (set (rows_of rows.old n) i (reduced (row_at rows.old i) remaining mark)) }
 {

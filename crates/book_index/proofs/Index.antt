@@ -1,5 +1,6 @@
 -- What an index tells of the rows, and what keeps it an index: an order marked, bounds widened, an order joined or cut.
 -- Assumes nothing.
+use Rattle.std.specs.Prelude.{Option, Some, None}
 use Prim.Native.Nat.{ℕ, zero, suc, ◌+◌, ◌<◌, ◌≤◌}
 use mathlib.Core.Path.{◌≡◌, refl, sym, ap, ◌∙◌}
 use mathlib.Core.Bool.{Bool, true, false, not, ◌||◌, ◌&&◌, cond}
@@ -16,11 +17,6 @@ use Rattle.message.specs.declared.L3Side.{L3Side}
 use Rattle.message.specs.declared.L3Side.TheVariants.{Buy, Sell}
 use Rattle.message.specs.declared.OrderId.{OrderId}
 use Rattle.message.specs.Same.{same_side, same_id}
-use Rattle.book.specs.declared.BestPrice.{BestPrice}
-use Rattle.book.specs.declared.BestPrice.TheVariants.{Price, NoPrice}
-use Rattle.book.specs.declared.Decrease.{Decrease}
-use Rattle.book.specs.declared.Decrease.TheVariants.{Unmarked, Marked}
-use Rattle.book.specs.declared.Found.TheVariants.{At, Nothing}
 use Rattle.book.specs.declared.Resting.{Resting}
 use Rattle.book.specs.Line.{rests, better, best, meet, would_cross}
 use Rattle.book.specs.Rows.{empty_row, row_at, rows_from, rows_of, id_of, entry_of, line_of, side_of, find_row, reduced, cut_rows}
@@ -52,8 +48,8 @@ module _ (f : Resting → Bool) where
       and_both (g o) (all g os) (w o d.0) (all_weaker g w os d.1)
 
   -- one that looks at neither the size nor the mark of a decrease
-  module _ (same : (o : Resting) (r : ℕ) (mark : Decrease) → f (reduced o r mark) ≡ f o) where
-    pub all_cut : (d : OrderId) (r : ℕ) (mark : Decrease) (os : List Resting) → all f os ≡ true → all f (cut_rows d r mark os) ≡ true
+  module _ (same : (o : Resting) (r : ℕ) (mark : Option ℕ) → f (reduced o r mark) ≡ f o) where
+    pub all_cut : (d : OrderId) (r : ℕ) (mark : Option ℕ) (os : List Resting) → all f os ≡ true → all f (cut_rows d r mark os) ≡ true
     all_cut d r mark [] h = refl
     all_cut d r mark (o ∷ os) h =
         let e = and_yes (f o) (all f os) h in
@@ -65,13 +61,13 @@ module _ (f : Resting → Bool) where
         go true false p q ih = and_both (f (reduced o r mark)) (all f os) (same o r mark ∙ p) q
         go false b p q ih = and_both (f o) (all f (cut_rows d r mark os)) p ih
 
-pub marked-same : (places : List ℕ) (o : Resting) (r : ℕ) (mark : Decrease) → row_marked places (reduced o r mark) ≡ row_marked places o
-marked-same places o r Unmarked = refl
-marked-same places o r (Marked t) = refl
+pub marked-same : (places : List ℕ) (o : Resting) (r : ℕ) (mark : Option ℕ) → row_marked places (reduced o r mark) ≡ row_marked places o
+marked-same places o r None = refl
+marked-same places o r (Some t) = refl
 
-pub bounded-same : (b : Bounds) (o : Resting) (r : ℕ) (mark : Decrease) → row_bounded b (reduced o r mark) ≡ row_bounded b o
-bounded-same b o r Unmarked = refl
-bounded-same b o r (Marked t) = refl
+pub bounded-same : (b : Bounds) (o : Resting) (r : ℕ) (mark : Option ℕ) → row_bounded b (reduced o r mark) ≡ row_bounded b o
+bounded-same b o r None = refl
+bounded-same b o r (Some t) = refl
 
 none-marked : (d : OrderId) → marked [] d ≡ true
 unfolding marked
@@ -108,13 +104,13 @@ same_id-eq a b h =
 
 -- an order of that id would be marked
 pub unmarked-none : (places : List ℕ) (d : OrderId) → marked places d ≡ false → (os : List Resting) (k : ℕ) → all (row_marked places) os ≡ true
-    → find_row os d k ≡ Nothing
+    → find_row os d k ≡ None
 unmarked-none places d u [] k h = refl
 unmarked-none places d u (o ∷ os) k h =
     let e = and_yes (row_marked places o) (all (row_marked places) os) h in
     go (same_id (id_of o) d) refl e.0 (unmarked-none places d u os (k + 1) e.1)
   where
-    go : (t : Bool) → same_id (id_of o) d ≡ t → marked places (id_of o) ≡ true → find_row os d (k + 1) ≡ Nothing → cond t (At k) (find_row os d (k + 1)) ≡ Nothing
+    go : (t : Bool) → same_id (id_of o) d ≡ t → marked places (id_of o) ≡ true → find_row os d (k + 1) ≡ None → cond t (Some k) (find_row os d (k + 1)) ≡ None
     go true p q ih = absurd_bool (sym q ∙ ap (marked places) (same_id-eq (id_of o) d p) ∙ u)
     go false p q ih = ih
 
@@ -126,25 +122,25 @@ rests_at (o ∷ os) d (suc i) h p =
 
 -- where ids are distinct, an order of that id is the first
 pub first_is : (os : List Resting) (d : OrderId) (k i : ℕ) → id_twice (line_of os) ≡ false → i < length os
-    → same_id (id_of (get_or os i empty_row)) d ≡ true → find_row os d k ≡ At (k + i)
+    → same_id (id_of (get_or os i empty_row)) d ≡ true → find_row os d k ≡ Some (k + i)
 first_is [] d k i t h p = absurd (omega arith)
 first_is (o ∷ os) d k zero t h p = rw (p, add-zero)
 first_is (o ∷ os) d k (suc i) t h p =
     let e = or_no (rests (id_of o) (line_of os)) (id_twice (line_of os)) t in
     go (same_id (id_of o) d) refl e.0 (first_is os d (k + 1) i e.1 (omega arith) p)
   where
-    go : (b : Bool) → same_id (id_of o) d ≡ b → rests (id_of o) (line_of os) ≡ false → find_row os d (k + 1) ≡ At (k + 1 + i)
-        → cond b (At k) (find_row os d (k + 1)) ≡ At (k + suc i)
+    go : (b : Bool) → same_id (id_of o) d ≡ b → rests (id_of o) (line_of os) ≡ false → find_row os d (k + 1) ≡ Some (k + 1 + i)
+        → cond b (Some k) (find_row os d (k + 1)) ≡ Some (k + suc i)
     go true q n ih =
         absurd_bool (sym (rests_at os d i (omega arith) p) ∙ ap (λ (x : OrderId). rests x (line_of os)) (sym (same_id-eq (id_of o) d q)) ∙ n)
-    go false q n ih = ih ∙ ap At (let z : k + 1 + i ≡ k + suc i = omega arith in z)
+    go false q n ih = ih ∙ ap Some (let z : k + 1 + i ≡ k + suc i = omega arith in z)
 
 -- the same of a row
 pub near_is : (ws : List ℕ) (n i : ℕ) (d : OrderId) → id_twice (line_of (rows_of ws n)) ≡ false → i < n → same_id (id_of (row_at ws i)) d ≡ true
-    → At i ≡ find_row (rows_of ws n) d 0
+    → Some i ≡ find_row (rows_of ws n) d 0
 near_is ws n i d t h p =
     let e : get_or (rows_of ws n) i empty_row ≡ row_at ws i = get_d_rows ws n i empty_row h in
-    sym (first_is (rows_of ws n) d 0 i t (omega (arith, length-rows ws 0 n)) (ap (λ (o : Resting). same_id (id_of o) d) e ∙ p) ∙ ap At (zero-add i))
+    sym (first_is (rows_of ws n) d 0 i t (omega (arith, length-rows ws 0 n)) (ap (λ (o : Resting). same_id (id_of o) d) e ∙ p) ∙ ap Some (zero-add i))
 
 -- an id whose bucket has no place is not marked
 pub no_place : (places : List ℕ) (d : OrderId) → 0 < length places → get_or places (bucket_of (key_for d) (length places)) 0 ≡ 0 → marked places d ≡ false
@@ -242,49 +238,49 @@ within-kept b s p os h =
 
 -- an open that is clear of them does not cross
 module _ (b : Bounds) (p : ℕ) (k : b.known ≡ true) where
-  above : (x : ℕ) (r : BestPrice) → p < b.low_ask → bounded b Sell x ≡ true → meet (Price p) r ≡ false → meet (Price p) (better Sell x r) ≡ false
+  above : (x : ℕ) (r : Option ℕ) → p < b.low_ask → bounded b Sell x ≡ true → meet (Some p) r ≡ false → meet (Some p) (better Sell x r) ≡ false
   unfolding bounded
   above x r lt h m = go r (leb-true b.low_ask x (rw k at h)) m
     where
-      go : (r : BestPrice) → b.low_ask ≤ x → meet (Price p) r ≡ false → meet (Price p) (better Sell x r) ≡ false
-      go NoPrice q m = lt-leb x p (omega arith)
-      go (Price y) q m = pick (ltb x y)
+      go : (r : Option ℕ) → b.low_ask ≤ x → meet (Some p) r ≡ false → meet (Some p) (better Sell x r) ≡ false
+      go None q m = lt-leb x p (omega arith)
+      go (Some y) q m = pick (ltb x y)
         where
           pick : (t : Bool) → leb (cond t x y) p ≡ false
           pick true = lt-leb x p (omega arith)
           pick false = m
 
-  below : (x : ℕ) (r : BestPrice) → b.high_bid < p → bounded b Buy x ≡ true → meet r (Price p) ≡ false → meet (better Buy x r) (Price p) ≡ false
+  below : (x : ℕ) (r : Option ℕ) → b.high_bid < p → bounded b Buy x ≡ true → meet r (Some p) ≡ false → meet (better Buy x r) (Some p) ≡ false
   unfolding bounded
   below x r lt h m = go r (leb-true x b.high_bid (rw k at h)) m
     where
-      go : (r : BestPrice) → x ≤ b.high_bid → meet r (Price p) ≡ false → meet (better Buy x r) (Price p) ≡ false
-      go NoPrice q m = lt-leb p x (omega arith)
-      go (Price y) q m = pick (ltb y x)
+      go : (r : Option ℕ) → x ≤ b.high_bid → meet r (Some p) ≡ false → meet (better Buy x r) (Some p) ≡ false
+      go None q m = lt-leb p x (omega arith)
+      go (Some y) q m = pick (ltb y x)
         where
           pick : (t : Bool) → leb p (cond t x y) ≡ false
           pick true = lt-leb p x (omega arith)
           pick false = m
 
-  sells : p < b.low_ask → (os : List Resting) → all (row_bounded b) os ≡ true → meet (Price p) (best Sell (line_of os)) ≡ false
+  sells : p < b.low_ask → (os : List Resting) → all (row_bounded b) os ≡ true → meet (Some p) (best Sell (line_of os)) ≡ false
   sells lt [] h = refl
   sells lt (o ∷ os) h =
       let d = and_yes (row_bounded b o) (all (row_bounded b) os) h in
       go (side_of o.kind) d.0 (sells lt os d.1)
     where
-      go : (s : L3Side) → bounded b s o.price ≡ true → meet (Price p) (best Sell (line_of os)) ≡ false
-          → meet (Price p) (cond (same_side s Sell) (better Sell o.price (best Sell (line_of os))) (best Sell (line_of os))) ≡ false
+      go : (s : L3Side) → bounded b s o.price ≡ true → meet (Some p) (best Sell (line_of os)) ≡ false
+          → meet (Some p) (cond (same_side s Sell) (better Sell o.price (best Sell (line_of os))) (best Sell (line_of os))) ≡ false
       go Buy q ih = ih
       go Sell q ih = above o.price (best Sell (line_of os)) lt q ih
 
-  buys : b.high_bid < p → (os : List Resting) → all (row_bounded b) os ≡ true → meet (best Buy (line_of os)) (Price p) ≡ false
+  buys : b.high_bid < p → (os : List Resting) → all (row_bounded b) os ≡ true → meet (best Buy (line_of os)) (Some p) ≡ false
   buys lt [] h = refl
   buys lt (o ∷ os) h =
       let d = and_yes (row_bounded b o) (all (row_bounded b) os) h in
       go (side_of o.kind) d.0 (buys lt os d.1)
     where
-      go : (s : L3Side) → bounded b s o.price ≡ true → meet (best Buy (line_of os)) (Price p) ≡ false
-          → meet (cond (same_side s Buy) (better Buy o.price (best Buy (line_of os))) (best Buy (line_of os))) (Price p) ≡ false
+      go : (s : L3Side) → bounded b s o.price ≡ true → meet (best Buy (line_of os)) (Some p) ≡ false
+          → meet (cond (same_side s Buy) (better Buy o.price (best Buy (line_of os))) (best Buy (line_of os))) (Some p) ≡ false
       go Sell q ih = ih
       go Buy q ih = below o.price (best Buy (line_of os)) lt q ih
 

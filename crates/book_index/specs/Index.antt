@@ -1,6 +1,6 @@
 -- An index beside the rows, which a run of messages keeps: where to look first for an id, and prices that an open does not cross. Nothing here is for
 -- a reader to believe: the promises of this crate are `find_row` and `would_cross` of the crate book.
-use Rattle.std.specs.Prelude.{ℕ, ◌+◌, ◌<◌, ◌≤◌, ◌≡◌, Bool, true, false, not, ◌||◌, ◌&&◌, cond, List, [], ◌∷◌, eqb, leb, ltb, length, get_or, set}
+use Rattle.std.specs.Prelude.{ℕ, ◌+◌, ◌<◌, ◌≤◌, ◌≡◌, Bool, true, false, not, ◌||◌, ◌&&◌, cond, List, [], ◌∷◌, eqb, leb, ltb, length, get_or, set, Option, Some, None}
 use Rattle.message.specs.declared.L3Side.{L3Side}
 use Rattle.message.specs.declared.L3Side.TheVariants.{Buy, Sell}
 use Rattle.message.specs.declared.OrderId.{OrderId}
@@ -8,8 +8,6 @@ use Rattle.message.specs.declared.L3Event.{L3Event}
 use Rattle.message.specs.declared.L3Event.TheVariants.{Received, Open, Done, Match, Change, Unsupported}
 use Rattle.message.specs.Amounts.{nat_of}
 use Rattle.message.specs.Same.{same_id}
-use Rattle.book.specs.declared.Found.{Found}
-use Rattle.book.specs.declared.Found.TheVariants.{At, Nothing}
 use Rattle.book.specs.declared.Resting.{Resting}
 use Rattle.book.specs.Rows.{row_at, id_of, side_of, line_of}
 use Rattle.book.specs.Broken.{id_twice}
@@ -84,6 +82,6 @@ clear_of b Buy p = b.known && ltb p b.low_ask
 clear_of b Sell p = b.known && ltb b.high_bid p
 
 -- a row before row k that has the id, or no word on it
-abbrev pub Near : List ℕ → ℕ → OrderId → Found → Type 0
-Near ws k d (At i) = (i < k) × (same_id (id_of (row_at ws i)) d ≡ true)
-Near ws k d Nothing = Unit {0}
+abbrev pub Near : List ℕ → ℕ → OrderId → Option ℕ → Type 0
+Near ws k d (Some i) = (i < k) × (same_id (id_of (row_at ws i)) d ≡ true)
+Near ws k d None = Unit {0}

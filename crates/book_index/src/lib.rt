@@ -8,7 +8,6 @@ ghost use Rattle.book.specs.Rows.{Lent, rows_of, line_of, find_row};
 ghost use Rattle.book_buckets.specs.Buckets.{bucket_of};
 ghost use Rattle.book_index.specs.Index.{key_for, Indexed, no_bounds, widened, clear_of, Near};
 
-use book::Found;
 use book_row_keys::Key;
 use message::{L3Side, OrderId};
 
@@ -82,7 +81,7 @@ fn smaller(a: usize, b: usize) -> usize
 }
 
 // A row with the id among the last 256 before row `k`.
-fn find_near(rows: &[u64], k: usize, id: OrderId) -> Found
+fn find_near(rows: &[u64], k: usize, id: OrderId) -> Option<usize>
     requires { Lent rows.now k }
     ensures { Near rows.now k id result }
 {
@@ -91,14 +90,14 @@ fn find_near(rows: &[u64], k: usize, id: OrderId) -> Found
     while last < j {
         j -= 1;
         if book_search::has_id(book::get_row(rows, j), id) {
-            return Found::At(j);
+            return Some(j);
         }
     }
-    Found::Nothing
+    None
 }
 
 // The row with the id: looked for from its place in the index down, and where that misses it, from the first row on.
-pub fn find(rows: &[u64], n: usize, places: &[u16], bounds: Bounds, id: OrderId) -> Found
+pub fn find(rows: &[u64], n: usize, places: &[u16], bounds: Bounds, id: OrderId) -> Option<usize>
     requires { Lent rows.now n × Indexed places.now bounds (rows_of rows.now n) }
     ensures { result ≡ find_row (rows_of rows.now n) id 0 }
 {
@@ -108,12 +107,12 @@ pub fn find(rows: &[u64], n: usize, places: &[u16], bounds: Bounds, id: OrderId)
     }
     let place = book_buckets::row_of(places[bucket_of(id, m)]);
     if place == 0 {
-        return Found::Nothing;
+        return None;
     }
-    let Found::At(i) = find_near(rows, smaller(place, n), id) else {
+    let Some(i) = find_near(rows, smaller(place, n), id) else {
         return book_search::find(rows, n, id);
     };
-    Found::At(i)
+    Some(i)
 }
 
 // Whether an order at that side and price would cross the best of the other side.

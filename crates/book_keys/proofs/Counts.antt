@@ -1,10 +1,10 @@
 -- What a number of distinct keys says of ids and of levels.
 -- Assumes nothing.
+use Rattle.std.specs.Prelude.{Option, Some}
 use Prim.Native.Nat.{ℕ, suc, ◌+◌, ◌%◌, ◌≤◌}
 use mathlib.Core.Path.{◌≡◌, refl, sym, ap, ap₂, ◌∙◌}
 use mathlib.Core.Bool.{Bool, true, false, not, ◌&&◌, ◌||◌, cond}
 use mathlib.Core.List.{List, [], ◌∷◌}
-use mathlib.Core.Option.{Option, some}
 use native.Mathlib.Omega.{arith}
 use lib.Dec.{eqb}
 use lib.ListN.{length}
@@ -31,7 +31,7 @@ rests_key o (a ∷ os) =
     go (eqb a.high o.high && eqb a.low o.low) (find (id_of o) (line_of os))
     ∙ ap (λ (x : Bool). (eqb a.high o.high && eqb a.low o.low) || x) (rests_key o os)
   where
-    go : (b : Bool) (x : Option Entry) → present (cond b (some (entry_of a)) x) ≡ (b || present x)
+    go : (b : Bool) (x : Option Entry) → present (cond b (Some (entry_of a)) x) ≡ (b || present x)
     go true x = refl
     go false x = refl
 

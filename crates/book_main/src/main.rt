@@ -4,8 +4,8 @@
 
 ghost use Rattle.std.specs.Prelude.{◌<◌};
 
-use book::{BestPrice, Decrease, Found, Resting};
-use book_valid::AuditAnswer;
+use book::Resting;
+use book_valid::AuditFinding;
 use message::{L3Side, OrderId};
 use std::io::{self, Stdout};
 
@@ -56,7 +56,7 @@ fn add(rows: &mut [u64], n: usize, o: Resting) -> usize {
     n + 1
 }
 
-fn reduce(rows: &mut [u64], n: usize, i: usize, remaining: u64, mark: Decrease) {
+fn reduce(rows: &mut [u64], n: usize, i: usize, remaining: u64, mark: Option<u64>) {
     if book::MOST_ROWS < n {
         return;
     }
@@ -91,16 +91,16 @@ fn find(to: Stdout, rows: &[u64], n: usize, id: u64) -> io::Result<()> {
     text(to, b"find")?;
     let id = OrderId { high: 1, low: id };
     match book_search::find(rows, n, id) {
-        Found::At(i) => number(to, i as u64)?,
-        Found::Nothing => text(to, b" none")?,
+        Some(i) => number(to, i as u64)?,
+        None => text(to, b" none")?,
     }
     text(to, b"\n")
 }
 
-fn price(to: Stdout, best: BestPrice) -> io::Result<()> {
+fn price(to: Stdout, best: Option<u64>) -> io::Result<()> {
     match best {
-        BestPrice::Price(p) => number(to, p),
-        BestPrice::NoPrice => text(to, b" none"),
+        Some(p) => number(to, p),
+        None => text(to, b" none"),
     }
 }
 
@@ -171,13 +171,13 @@ fn walk(rows: &[u64], n: usize, side: L3Side, marks: &mut [u64], out: &mut [u64]
     book_walk::write_levels(rows, n, side, 3, marks, size, out)
 }
 
-fn finding(to: Stdout, answer: AuditAnswer) -> io::Result<()> {
+fn finding(to: Stdout, answer: Result<(), AuditFinding>) -> io::Result<()> {
     match answer {
-        AuditAnswer::Ok => text(to, b" ok"),
-        AuditAnswer::NotLent => text(to, b" not-lent"),
-        AuditAnswer::SizeNotPositive => text(to, b" size"),
-        AuditAnswer::IdTwice => text(to, b" id-twice"),
-        AuditAnswer::Crossed => text(to, b" crossed"),
+        Ok(()) => text(to, b" ok"),
+        Err(AuditFinding::NotLent) => text(to, b" not-lent"),
+        Err(AuditFinding::SizeNotPositive) => text(to, b" size"),
+        Err(AuditFinding::IdTwice) => text(to, b" id-twice"),
+        Err(AuditFinding::Crossed) => text(to, b" crossed"),
     }
 }
 
@@ -279,8 +279,8 @@ fn walks(to: Stdout) -> io::Result<()> {
 fn changes(to: Stdout) -> io::Result<()> {
     let mut rows = [9u64; 40];
     let n = sample(&mut rows);
-    reduce(&mut rows, n, 2, 4, Decrease::Marked(103));
-    reduce(&mut rows, n, 0, 1, Decrease::Unmarked);
+    reduce(&mut rows, n, 2, 4, Some(103));
+    reduce(&mut rows, n, 0, 1, None);
     show(to, &rows, 40)?;
     let n3 = remove(&mut rows, n, 1);
     show(to, &rows, 40)?;

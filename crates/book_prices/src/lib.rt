@@ -7,36 +7,36 @@ ghost use Rattle.message.specs.Same.{same_side};
 ghost use Rattle.book.specs.Line.{better, best, meet, would_cross};
 ghost use Rattle.book.specs.Rows.{Lent, rows_of, line_of, side_of};
 
-use book::{BestPrice, Resting};
+use book::Resting;
 use message::L3Side;
 
 // The better of a price and the best so far.
-fn better(side: L3Side, price: u64, best: BestPrice) -> BestPrice
+fn better(side: L3Side, price: u64, best: Option<u64>) -> Option<u64>
     ensures { result ≡ better side price best }
 {
-    let BestPrice::Price(other) = best else {
-        return BestPrice::Price(price);
+    let Some(other) = best else {
+        return Some(price);
     };
     match side {
         L3Side::Buy => {
             if other < price {
-                BestPrice::Price(price)
+                Some(price)
             } else {
-                BestPrice::Price(other)
+                Some(other)
             }
         }
         L3Side::Sell => {
             if price < other {
-                BestPrice::Price(price)
+                Some(price)
             } else {
-                BestPrice::Price(other)
+                Some(other)
             }
         }
     }
 }
 
 // The best price of a side, with one row more.
-pub fn best_with(side: L3Side, o: Resting, best: BestPrice) -> BestPrice
+pub fn best_with(side: L3Side, o: Resting, best: Option<u64>) -> Option<u64>
     ensures { result ≡ cond (same_side (side_of o.kind) side) (better side o.price best) best }
 {
     if message::same_side(book::side_of(o.kind), side) {
@@ -47,11 +47,11 @@ pub fn best_with(side: L3Side, o: Resting, best: BestPrice) -> BestPrice
 }
 
 // The best price of a side.
-pub fn best(rows: &[u64], n: usize, side: L3Side) -> BestPrice
+pub fn best(rows: &[u64], n: usize, side: L3Side) -> Option<u64>
     requires { Lent rows.now n }
     ensures { result ≡ best side (line_of (rows_of rows.now n)) }
 {
-    let mut best = BestPrice::NoPrice;
+    let mut best = None;
     let mut i = n;
     while 0 < i {
         i -= 1;
@@ -60,14 +60,14 @@ pub fn best(rows: &[u64], n: usize, side: L3Side) -> BestPrice
     best
 }
 
-pub fn best_bid(rows: &[u64], n: usize) -> BestPrice
+pub fn best_bid(rows: &[u64], n: usize) -> Option<u64>
     requires { Lent rows.now n }
     ensures { result ≡ best Buy (line_of (rows_of rows.now n)) }
 {
     best(rows, n, L3Side::Buy)
 }
 
-pub fn best_ask(rows: &[u64], n: usize) -> BestPrice
+pub fn best_ask(rows: &[u64], n: usize) -> Option<u64>
     requires { Lent rows.now n }
     ensures { result ≡ best Sell (line_of (rows_of rows.now n)) }
 {
@@ -75,13 +75,13 @@ pub fn best_ask(rows: &[u64], n: usize) -> BestPrice
 }
 
 // Whether a best buy is at or above a best sell.
-pub fn meet(bid: BestPrice, ask: BestPrice) -> bool
+pub fn meet(bid: Option<u64>, ask: Option<u64>) -> bool
     ensures { result ≡ meet bid ask }
 {
-    let BestPrice::Price(b) = bid else {
+    let Some(b) = bid else {
         return false;
     };
-    let BestPrice::Price(a) = ask else {
+    let Some(a) = ask else {
         return false;
     };
     a <= b
@@ -93,7 +93,7 @@ pub fn would_cross(rows: &[u64], n: usize, side: L3Side, price: u64) -> bool
     ensures { result ≡ would_cross side price (line_of (rows_of rows.now n)) }
 {
     match side {
-        L3Side::Buy => meet(BestPrice::Price(price), best_ask(rows, n)),
-        L3Side::Sell => meet(best_bid(rows, n), BestPrice::Price(price)),
+        L3Side::Buy => meet(Some(price), best_ask(rows, n)),
+        L3Side::Sell => meet(best_bid(rows, n), Some(price)),
     }
 }

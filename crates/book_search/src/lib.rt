@@ -6,7 +6,7 @@ ghost use Rattle.message.specs.Same.{same_id};
 ghost use Rattle.book.specs.Line.{has_level, same_level};
 ghost use Rattle.book.specs.Rows.{Lent, id_of, rows_of, line_of, side_of, find_row};
 
-use book::{Found, Resting};
+use book::Resting;
 use message::{L3Side, OrderId};
 
 // Whether an order has the id.
@@ -23,18 +23,18 @@ pub fn has_id(o: Resting, id: OrderId) -> bool
 }
 
 // The first of `n` rows with the id.
-pub fn find(rows: &[u64], n: usize, id: OrderId) -> Found
+pub fn find(rows: &[u64], n: usize, id: OrderId) -> Option<usize>
     requires { Lent rows.now n }
     ensures { result ≡ find_row (rows_of rows.now n) id 0 }
 {
     let mut i: usize = 0;
     while i < n {
         if has_id(book::get_row(rows, i), id) {
-            return Found::At(i);
+            return Some(i);
         }
         i += 1;
     }
-    Found::Nothing
+    None
 }
 
 // Whether an order rests at a side and price.

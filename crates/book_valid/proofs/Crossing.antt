@@ -1,5 +1,6 @@
 -- Among sound rows, the best buy is at or above the best sell exactly where the numbers of one pass say so.
 -- Assumes nothing.
+use Rattle.std.specs.Prelude.{Option, Some, None}
 use Prim.Native.Nat.{ℕ, suc, ◌≤◌}
 use mathlib.Core.Path.{◌≡◌, refl, sym, ap, ap₂, ◌∙◌}
 use mathlib.Core.Bool.{Bool, true, false, ◌||◌, cond}
@@ -11,8 +12,6 @@ use Rattle.laws.proofs.Bools.{or_no}
 use Rattle.message.specs.declared.L3Side.{L3Side}
 use Rattle.message.specs.declared.L3Side.TheVariants.{Buy, Sell}
 use Rattle.message.specs.Same.{same_side}
-use Rattle.book.specs.declared.BestPrice.{BestPrice}
-use Rattle.book.specs.declared.BestPrice.TheVariants.{Price, NoPrice}
 use Rattle.book.specs.declared.Resting.{Resting}
 use Rattle.book.specs.Line.{ahead, better, best, meet, crossed}
 use Rattle.book.specs.Rows.{side_of, line_of}
@@ -22,21 +21,21 @@ use Rattle.book.proofs.Kept.{InRange, sound_row}
 use Rattle.book_valid.specs.Screen.{raise, lower}
 
 -- a best price as a number
-abbrev or-zero : BestPrice → ℕ
-or-zero NoPrice = 0
-or-zero (Price p) = p
+abbrev or-zero : Option ℕ → ℕ
+or-zero None = 0
+or-zero (Some p) = p
 
-abbrev or_above : BestPrice → ℕ
-or_above NoPrice = suc amount_limit
-or_above (Price p) = p
+abbrev or_above : Option ℕ → ℕ
+or_above None = suc amount_limit
+or_above (Some p) = p
 
-abbrev Ranged : BestPrice → Type 0
-Ranged NoPrice = Unit {0}
-Ranged (Price p) = InRange p
+abbrev Ranged : Option ℕ → Type 0
+Ranged None = Unit {0}
+Ranged (Some p) = InRange p
 
-ranged-better : (s : L3Side) (p : ℕ) (b : BestPrice) → InRange p → Ranged b → Ranged (better s p b)
-ranged-better s p NoPrice h k = h
-ranged-better s p (Price q) h k = go (ahead s p q)
+ranged-better : (s : L3Side) (p : ℕ) (b : Option ℕ) → InRange p → Ranged b → Ranged (better s p b)
+ranged-better s p None h k = h
+ranged-better s p (Some q) h k = go (ahead s p q)
   where
     go : (t : Bool) → InRange (cond t p q)
     go true = h
@@ -53,17 +52,17 @@ ranged s (o ∷ os) h = go (same_side (side_of o.kind) s) (ranged s os d.1)
     go true ih = ranged-better s o.price (best s (line_of os)) (sound_row o d.0).price ih
     go false ih = ih
 
-raise-better : (p : ℕ) (b : BestPrice) → cond (ltb (or-zero b) p) p (or-zero b) ≡ or-zero (better Buy p b)
-raise-better p NoPrice = go (ltb 0 p) refl
+raise-better : (p : ℕ) (b : Option ℕ) → cond (ltb (or-zero b) p) p (or-zero b) ≡ or-zero (better Buy p b)
+raise-better p None = go (ltb 0 p) refl
   where
     go : (t : Bool) → ltb 0 p ≡ t → cond t p 0 ≡ p
     go true e = refl
     go false e = omega (arith, ltb-false 0 p e)
-raise-better p (Price q) = refl
+raise-better p (Some q) = refl
 
-lower-better : (p : ℕ) (b : BestPrice) → p ≤ amount_limit → cond (ltb p (or_above b)) p (or_above b) ≡ or_above (better Sell p b)
-lower-better p NoPrice h = rw (lt-ltb p (suc amount_limit) (omega arith))
-lower-better p (Price q) h = refl
+lower-better : (p : ℕ) (b : Option ℕ) → p ≤ amount_limit → cond (ltb p (or_above b)) p (or_above b) ≡ or_above (better Sell p b)
+lower-better p None h = rw (lt-ltb p (suc amount_limit) (omega arith))
+lower-better p (Some q) h = refl
 
 -- the highest price of a buy, or 0
 abbrev pub highest : List Resting → ℕ
@@ -98,11 +97,11 @@ lowest_is (o ∷ os) h = rw (lowest_is os d.1) (go (same_side (side_of o.kind) S
     go true = lower-better o.price (best Sell (line_of os)) (sound_row o d.0).price.high
     go false = refl
 
-meet_is : (b a : BestPrice) → Ranged b → Ranged a → meet b a ≡ leb (or_above a) (or-zero b)
-meet_is NoPrice NoPrice h k = refl
-meet_is NoPrice (Price a) h k = sym (lt-leb a 0 k.low)
-meet_is (Price b) NoPrice h k = sym (lt-leb (suc amount_limit) b (omega (arith, h.high)))
-meet_is (Price b) (Price a) h k = refl
+meet_is : (b a : Option ℕ) → Ranged b → Ranged a → meet b a ≡ leb (or_above a) (or-zero b)
+meet_is None None h k = refl
+meet_is None (Some a) h k = sym (lt-leb a 0 k.low)
+meet_is (Some b) None h k = sym (lt-leb (suc amount_limit) b (omega (arith, h.high)))
+meet_is (Some b) (Some a) h k = refl
 
 pub crossed_is : (os : List Resting) → some_row_broken os ≡ false → crossed (line_of os) ≡ leb (lowest os) (highest os)
 crossed_is os h =

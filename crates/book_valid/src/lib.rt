@@ -13,8 +13,7 @@ use message::L3Side;
 // What an audit finds first. The Rust's other findings, on queues and totals that disagree with the orders, have no place here: a level is
 // worked out from the rows.
 #[derive(Clone, Copy)]
-pub enum AuditAnswer {
-    Ok,
+pub enum AuditFinding {
     // More rows than 4,096, or than the words hold.
     NotLent,
     SizeNotPositive,

@@ -8,7 +8,7 @@ ghost use Rattle.daybook_lines.specs.Most.{listing_bytes};
 ghost use Rattle.daybook.specs.Listing.{listing as Listing·listing};
 
 use daybook::{LISTING_BYTES, replay};
-use std::io::{ErrorKind, Read, Stdin, Stdout, Write};
+use std::io::{ErrorKind, Stdin, Stdout};
 
 // One byte more than a day file may have, so that a longer input is known to be one.
 const INPUT_BYTES: usize = 65537;

@@ -1,21 +1,17 @@
 -- A piece of a day, with the last record by value: what it does to a state that passes 1, 2 and 3, and whether it starts a segment.
 -- Assumes nothing.
+use Rattle.std.specs.Prelude.{Option, Some, None, Result, Ok, Err}
 use Prim.Native.Nat.{ℕ, ◌+◌, ◌<◌, ◌≤◌}
 use native.Mathlib.Omega.{arith}
 use mathlib.Core.Path.{◌≡◌, refl, sym, ap, subst, ◌∙◌}
 use mathlib.Core.Bool.{Bool, true, false, cond}
 use mathlib.Core.List.{List, [], ◌∷◌}
-use mathlib.Core.Option.{Option, none, some}
 use borrow.Author.Tests.{eqb-false, ltb-false}
 use lib.Dec.{eqb, ltb}
 use lib.ListN.{length, get_or, set, replicate, length-set}
 use lib.Seq.{set_out}
 use Rattle.message.specs.declared.L3Message.{L3Message}
 use Rattle.message.specs.declared.L3Snapshot.{L3Snapshot}
-use Rattle.piece.specs.declared.ReadMessage.{ReadMessage}
-use Rattle.piece.specs.declared.ReadMessage.TheVariants as messages
-use Rattle.piece.specs.declared.ReadSnapshot.{ReadSnapshot}
-use Rattle.piece.specs.declared.ReadSnapshot.TheVariants as snapshots
 use Rattle.piece.specs.declared.PieceError.{PieceError}
 use Rattle.piece.specs.declared.PieceError.TheVariants as pieces
 use Rattle.piece.specs.Piece.{piece_number, read_message, read_snapshot}
@@ -74,13 +70,13 @@ pub data Starts (b : BookReconstructor) (g : Segment) (p : PlayedTo) : Type 0 wh
 module _ (b : BookReconstructor) (mem : Memory) (g : Segment) (m : L3Message) (u : Usable ceiling b mem day_segments) where
   decided-segments : (last : ℕ) (o : Option InvalidationKind) → (decided b mem last m o).book.segments ≡ b.segments
   unfolding decided invalidated_reply accepted accepted_reply
-  decided-segments last (some k) = refl
-  decided-segments last none = refl
+  decided-segments last (Some k) = refl
+  decided-segments last None = refl
 
   gate-starts : (o : Option ApplyAnswer) → admit_refusal b.product_id b.status m ≡ o → Starts b g (by_apply_to (after_gate b mem g m o))
   unfolding after_gate refused_reply
-  gate-starts (some a) h = stays refl (ap (λ (x : BookReconstructor). x.segments) (refusal-counts b a)) (λ z. refl)
-  gate-starts none h =
+  gate-starts (Some a) h = stays refl (ap (λ (x : BookReconstructor). x.segments) (refusal-counts b a)) (λ z. refl)
+  gate-starts None h =
       stays refl (decided-segments (last_of b.status) (turn_refusal b.rules (line_in mem b.rows) (last_of b.status) m))
       (λ z. absurd (omega (arith, z, has-segment b (last_of b.status) (admitted-valid b.product_id b.status m h) (sound b mem u.sound).set)))
 
@@ -93,35 +89,35 @@ module _ (b : BookReconstructor) (mem : Memory) (g : Segment) (bytes : List ℕ)
   refusal = boot_refusal ceiling b.product_id b.rules (lengths_with mem day_segments) (broken b mem) (view_with b mem g) bytes
 
   -- 6 is said where the list is full
-  list-room : (s : L3Snapshot) → accept_refusal b.product_id b.rules (lengths_with mem day_segments) (view_with b mem g) s (snapshot_line s bytes) ≡ none → b.segments < day_segments
+  list-room : (s : L3Snapshot) → accept_refusal b.product_id b.rules (lengths_with mem day_segments) (view_with b mem g) s (snapshot_line s bytes) ≡ None → b.segments < day_segments
   unfolding accept_refusal
   list-room s h = omega (arith, eqb-false day_segments b.segments (passed _ _ _ h).0, segments-lent b mem day_segments u.lent)
 
-  room : refusal ≡ none → b.segments < day_segments
+  room : refusal ≡ None → b.segments < day_segments
   unfolding boot_refusal
   room h = go (read_snapshot bytes) (first-passed _ _ _ h).1
     where
-      go : (r : ReadSnapshot) → piece_refusal b.product_id b.rules (lengths_with mem day_segments) (view_with b mem g) r bytes ≡ none → b.segments < day_segments
-      go (snapshots.Refused e) k = let z : ◌≡◌ {A = ℕ} 0 1 = cc in absurd (omega arith)
-      go (snapshots.Snapshot s) k = list-room s k
+      go : (r : Result L3Snapshot PieceError) → piece_refusal b.product_id b.rules (lengths_with mem day_segments) (view_with b mem g) r bytes ≡ None → b.segments < day_segments
+      go (Err e) k = let z : ◌≡◌ {A = ℕ} 0 1 = cc in absurd (omega arith)
+      go (Ok s) k = list-room s k
 
   snapshot-starts : Starts b g (by_bootstrap_to (bootstrapped_to ceiling b mem day_segments g bytes))
   unfolding bootstrapped_to
   snapshot-starts = go refusal refl (read_snapshot bytes)
     where
-      go : (o : Option SnapshotAnswer) → refusal ≡ o → (r : ReadSnapshot) → Starts b g (by_bootstrap_to (unless_refused o b mem day_segments g (taken r b mem day_segments g bytes)))
-      go (some a) h r = stays refl (ap (λ (x : BookReconstructor). x.segments) (counts_alone a b)) (λ z. refl)
-      go none h (snapshots.Refused e) = stays refl (ap (λ (x : BookReconstructor). x.segments) (counts_alone (piece_answer e) b)) (λ z. refl)
-      go none h (snapshots.Snapshot s) = begins refl (room h) refl
+      go : (o : Option SnapshotAnswer) → refusal ≡ o → (r : Result L3Snapshot PieceError) → Starts b g (by_bootstrap_to (unless_refused o b mem day_segments g (taken r b mem day_segments g bytes)))
+      go (Some a) h r = stays refl (ap (λ (x : BookReconstructor). x.segments) (counts_alone a b)) (λ z. refl)
+      go None h (Err e) = stays refl (ap (λ (x : BookReconstructor). x.segments) (counts_alone (piece_answer e) b)) (λ z. refl)
+      go None h (Ok s) = begins refl (room h) refl
 
 pub piece-starts : (b : BookReconstructor) (mem : Memory) (g : Segment) (bytes : List ℕ) → Usable ceiling b mem day_segments → Starts b g (played_to b mem g bytes)
 unfolding played_to
 piece-starts b mem g bytes u = go (is_snapshot bytes) (read_message bytes)
   where
-    go : (x : Bool) (r : ReadMessage) → Starts b g (cond x (by_bootstrap_to (bootstrapped_to ceiling b mem day_segments g bytes)) (play_message_to r b mem g))
+    go : (x : Bool) (r : Result L3Message PieceError) → Starts b g (cond x (by_bootstrap_to (bootstrapped_to ceiling b mem day_segments g bytes)) (play_message_to r b mem g))
     go true r = snapshot-starts b mem g bytes u
-    go false (messages.Refused e) = stays refl refl (λ z. refl)
-    go false (messages.Message m) = message-starts b mem g m u
+    go false (Err e) = stays refl refl (λ z. refl)
+    go false (Ok m) = message-starts b mem g m u
 
 -- ---- a usable state stays usable
 
@@ -130,22 +126,22 @@ module _ (top : ℕ) (b : BookReconstructor) (mem : Memory) (lent : ℕ) (g h : 
   abbrev Same : Booted → Booted → Type 0
   Same x y = (x.book ≡ y.book) × (x.memory ≡ y.memory)
 
-  abbrev refused_for : Segment → ReadSnapshot → Option SnapshotAnswer
+  abbrev refused_for : Segment → Result L3Snapshot PieceError → Option SnapshotAnswer
   refused_for x r = piece_refusal b.product_id b.rules (lengths_with mem lent) (view_with b mem x) r bytes
 
-  same-refusal : (r : ReadSnapshot) → refused_for g r ≡ refused_for h r
+  same-refusal : (r : Result L3Snapshot PieceError) → refused_for g r ≡ refused_for h r
   unfolding accept_refusal
-  same-refusal (snapshots.Refused e) = refl
-  same-refusal (snapshots.Snapshot s) = refl
+  same-refusal (Err e) = refl
+  same-refusal (Ok s) = refl
 
   any-record : Same (bootstrapped_to top b mem lent g bytes) (bootstrapped_to top b mem lent h bytes)
   unfolding bootstrapped_to boot_refusal
   any-record = rw (same-refusal (read_snapshot bytes)) (go (boot_refusal top b.product_id b.rules (lengths_with mem lent) (broken b mem) (view_with b mem h) bytes) (read_snapshot bytes))
     where
-      go : (o : Option SnapshotAnswer) (r : ReadSnapshot) → Same (unless_refused o b mem lent g (taken r b mem lent g bytes)) (unless_refused o b mem lent h (taken r b mem lent h bytes))
-      go (some a) r = (refl, refl)
-      go none (snapshots.Refused e) = (refl, refl)
-      go none (snapshots.Snapshot s) = (refl, refl)
+      go : (o : Option SnapshotAnswer) (r : Result L3Snapshot PieceError) → Same (unless_refused o b mem lent g (taken r b mem lent g bytes)) (unless_refused o b mem lent h (taken r b mem lent h bytes))
+      go (Some a) r = (refl, refl)
+      go None (Err e) = (refl, refl)
+      go None (Ok s) = (refl, refl)
 
 module _ (b : BookReconstructor) (mem : Memory) (g : Segment) (bytes : List ℕ) (u : Usable ceiling b mem day_segments) where
   abbrev blank : List Segment
@@ -153,8 +149,8 @@ module _ (b : BookReconstructor) (mem : Memory) (g : Segment) (bytes : List ℕ)
 
   on_a-list : (o : Option SnapshotAnswer) → refusal_of ceiling b mem blank bytes ≡ o
       → Usable ceiling (bootstrapped ceiling b mem blank bytes).book (bootstrapped ceiling b mem blank bytes).memory (length (bootstrapped ceiling b mem blank bytes).segments)
-  on_a-list (some a) h = refused-usable ceiling b mem blank bytes a h u
-  on_a-list none h = accepted-usable ceiling b mem blank bytes h
+  on_a-list (Some a) h = refused-usable ceiling b mem blank bytes a h u
+  on_a-list None h = accepted-usable ceiling b mem blank bytes h
 
   pub snapshot-usable : Usable ceiling (bootstrapped_to ceiling b mem day_segments g bytes).book (bootstrapped_to ceiling b mem day_segments g bytes).memory day_segments
   unfolding bootstrapped
@@ -178,7 +174,7 @@ module _ (b : BookReconstructor) (ws vs : List ℕ) (g : Segment) (m : L3Message
       record { usable = subst (λ (x : Worked). Usable ceiling x.book x.memory day_segments) (sym done) (usable-kept ceiling b (memory ws) day_segments u g m); index = i }
 
 -- bytes that are no snapshot: 4 or 5, and nothing is touched
-pub unread-played : (b : BookReconstructor) (mem : Memory) (g : Segment) (bytes : List ℕ) (e : PieceError) → Usable ceiling b mem day_segments → read_snapshot bytes ≡ snapshots.Refused e
+pub unread-played : (b : BookReconstructor) (mem : Memory) (g : Segment) (bytes : List ℕ) (e : PieceError) → Usable ceiling b mem day_segments → read_snapshot bytes ≡ Err e
     → unstarted (piece_number e) b mem g ≡ by_bootstrap_to (bootstrapped_to ceiling b mem day_segments g bytes)
 unread-played b mem g bytes e u q = said e ∙ ap by_bootstrap_to (not-read ceiling b mem day_segments g bytes (usable-none ceiling b mem day_segments u) e q)
   where
@@ -187,7 +183,7 @@ unread-played b mem g bytes e u q = said e ∙ ap by_bootstrap_to (not-read ceil
     said pieces.OutOfRange = refl
 
 module _ (b : BookReconstructor) (ws vs : List ℕ) (g : Segment) (bytes : List ℕ) (s : L3Snapshot) (w : bootstrap.Work) (u : Usable ceiling b (memory ws) day_segments)
-    (q : read_snapshot bytes ≡ snapshots.Snapshot s) (e : booted w (memory vs) ≡ usable_to b (memory ws) day_segments g bytes s) where
+    (q : read_snapshot bytes ≡ Ok s) (e : booted w (memory vs) ≡ usable_to b (memory ws) day_segments g bytes s) where
   taking : booted w (memory vs) ≡ bootstrapped_to ceiling b (memory ws) day_segments g bytes
   taking = e ∙ read ceiling b (memory ws) day_segments g bytes (usable-none ceiling b (memory ws) day_segments u) s q
 
@@ -209,8 +205,8 @@ module _ (b : BookReconstructor) (ws vs : List ℕ) (g : Segment) (bytes : List 
           → day_segments ≤ (unless_refused o b (memory ws) day_segments g (boot.accepted b (memory ws) g s.sequence (snapshot_line s bytes))).at
           → orders_of (unless_refused o b (memory ws) day_segments g (boot.accepted b (memory ws) g s.sequence (snapshot_line s bytes))).memory (unless_refused o b (memory ws) day_segments g (boot.accepted b (memory ws) g s.sequence (snapshot_line s bytes))).book.rows
           ≡ orders_of (memory ws) b.rows
-      go (some a) h l = ap (λ (x : BookReconstructor). orders_of (memory ws) x.rows) (counts_alone a b)
-      go none h l = absurd (omega (arith, l, list-room b (memory ws) g bytes u s h))
+      go (Some a) h l = ap (λ (x : BookReconstructor). orders_of (memory ws) x.rows) (counts_alone a b)
+      go None h l = absurd (omega (arith, l, list-room b (memory ws) g bytes u s h))
 
   pub after-marks : (ps : List ℕ) (bounds : Bounds) → Indexed ps bounds (orders_of (memory ws) b.rows) → ltb w.at day_segments ≡ false → Marks ps bounds (orders_of (memory vs) w.book.rows)
   after-marks ps bounds i h = rw (untaken (ltb-false w.at day_segments h)) (i.marks, i.within)
@@ -236,11 +232,11 @@ module _ (b : BookReconstructor) (mem : Memory) (sg : List Segment) (full : leng
   past_end : (l : List Segment) → length l ≡ day_segments → set l day_segments no_segment ≡ l
   past_end l h = set_out l day_segments no_segment (omega arith)
 
-  put-message : (r : ReadMessage) → play_message r standing ≡ put_back sg b.segments (play_message_to r b mem last)
+  put-message : (r : Result L3Message PieceError) → play_message r standing ≡ put_back sg b.segments (play_message_to r b mem last)
   unfolding applied
-  put-message (messages.Refused e) =
+  put-message (Err e) =
       ap (λ (l : List Segment). record { number = piece_number e; after = record { book = b; memory = mem; segments = l } }) (sym (ap (λ (l : List Segment). set l day_segments no_segment) (relast-same sg b.segments) ∙ past_end sg full))
-  put-message (messages.Message m) =
+  put-message (Ok m) =
       let w : Worked = applied_to ceiling b mem day_segments last m in
       rw full
       (ap (λ (l : List Segment). record { number = answer_number w.answer; after = record { book = w.book; memory = w.memory; segments = l } })

@@ -1,8 +1,6 @@
 -- A piece as the code meets it: with the last segment's record by value, in a state that passes 1, 2 and 3, beside an index of its rows. Nothing here is for a
 -- reader to believe: the promise of a day speaks of `played`.
-use Rattle.std.specs.Prelude.{ℕ, ◌≡◌, true, cond, List}
-use Rattle.piece.specs.declared.ReadMessage.{ReadMessage}
-use Rattle.piece.specs.declared.ReadMessage.TheVariants.{Message, Refused}
+use Rattle.std.specs.Prelude.{ℕ, ◌≡◌, true, cond, List, Result, Ok, Err}
 use Rattle.piece.specs.Piece.{piece_number, read_message}
 use Rattle.book.specs.declared.Resting.{Resting}
 use Rattle.book.specs.Memory.{Memory, memory, orders_of}
@@ -20,6 +18,8 @@ use Rattle.reconstructor_bootstrap.specs.Bootstrap.{Booted, bootstrapped_to}
 use Rattle.daybook_pieces.specs.declared.Turn.{Turn}
 use Rattle.daybook_segments.specs.DaySegments.{day_segments}
 use Rattle.daybook_pieces.specs.Played.{is_snapshot}
+use Rattle.message.specs.declared.L3Message.{L3Message}
+use Rattle.piece.specs.declared.PieceError.{PieceError}
 
 -- what a piece leaves beside the list: as of a snapshot, the last record, and the record that is started with its place, past the list's end where none is
 pub record PlayedTo : Type 0 where
@@ -47,9 +47,9 @@ abbrev pub by_bootstrap_to : Booted → PlayedTo
 by_bootstrap_to w =
     record { number = snapshot_number w.answer; book = w.book; memory = w.memory; segment = w.segment; at = w.at; started = w.started }
 
-abbrev pub play_message_to : ReadMessage → BookReconstructor → Memory → Segment → PlayedTo
-play_message_to (Refused e) b mem g = unstarted (piece_number e) b mem g
-play_message_to (Message m) b mem g = by_apply_to (applied_to ceiling b mem day_segments g m)
+abbrev pub play_message_to : Result L3Message PieceError → BookReconstructor → Memory → Segment → PlayedTo
+play_message_to (Err e) b mem g = unstarted (piece_number e) b mem g
+play_message_to (Ok m) b mem g = by_apply_to (applied_to ceiling b mem day_segments g m)
 
 unfoldable pub played_to : BookReconstructor → Memory → Segment → List ℕ → PlayedTo
 played_to b mem g bytes = cond (is_snapshot bytes) (by_bootstrap_to (bootstrapped_to ceiling b mem day_segments g bytes)) (play_message_to (read_message bytes) b mem g)

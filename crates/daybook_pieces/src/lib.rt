@@ -14,7 +14,6 @@ ghost use Rattle.daybook_pieces.specs.ByValue.{unstarted_turn, Marks, turned, by
 use book_index::Bounds;
 use book_index_upkeep::{bounds_of, mark_rows};
 use daybook_segments::DAY_SEGMENTS;
-use piece::{ReadMessage, ReadSnapshot};
 use piece_messages::read_message;
 use piece_snapshots::read_snapshot;
 use reconstructor_apply_run::apply_in_run;
@@ -88,8 +87,8 @@ fn play_snapshot(
     ensures plays { Plays result.book rows.new places.new result.bounds }
 {
     match read_snapshot(bytes) {
-        ReadSnapshot::Refused(error) => unstarted(error.number(), book, last, bounds),
-        ReadSnapshot::Snapshot(snapshot) => {
+        Err(error) => unstarted(error.number(), book, last, bounds),
+        Ok(snapshot) => {
             let work = bootstrap_usable(book, rows, DAY_SEGMENTS, last, bytes, snapshot);
             let answer = work.answer;
             let next = work.book;
@@ -122,8 +121,8 @@ fn play_message(
     ensures plays { Plays result.book rows.new places.new result.bounds }
 {
     match read_message(bytes) {
-        ReadMessage::Refused(error) => unstarted(error.number(), book, last, bounds),
-        ReadMessage::Message(message) => {
+        Err(error) => unstarted(error.number(), book, last, bounds),
+        Ok(message) => {
             let run = apply_in_run(book, rows, last, places, bounds, message);
             let work = run.work;
             let answer = work.answer;

@@ -1,11 +1,11 @@
 -- What can stop a replay: 4, 5 and 6 alone. 1, 2 and 3 hold of no state on the way, and every other refusal goes on.
 -- Assumes nothing.
+use Rattle.std.specs.Prelude.{Option, Some, None, Result, Ok, Err}
 use Prim.Native.Nat.{ℕ, ◌+◌}
 use mathlib.Core.Path.{◌≡◌, refl, ◌∙◌}
 use mathlib.Core.Bool.{Bool, true, false, not, cond}
 use mathlib.Core.List.{List, [], ◌∷◌}
 use mathlib.Core.Logic.{◌⊎◌, inl, inr}
-use mathlib.Core.Option.{Option, none, some}
 use lib.Dec.{eqb}
 use lib.ListN.{length, length-set}
 use Rattle.laws.proofs.Bools.{absurd_bool}
@@ -14,10 +14,6 @@ use Rattle.message.specs.Same.{same_product}
 use Rattle.message.specs.Values.{event_in_range}
 use Rattle.piece.specs.declared.PieceError.{PieceError}
 use Rattle.piece.specs.declared.PieceError.TheVariants as pieces
-use Rattle.piece.specs.declared.ReadMessage.{ReadMessage}
-use Rattle.piece.specs.declared.ReadMessage.TheVariants as messages
-use Rattle.piece.specs.declared.ReadSnapshot.{ReadSnapshot}
-use Rattle.piece.specs.declared.ReadSnapshot.TheVariants as snapshots
 use Rattle.piece.specs.Piece.{piece_number, read_message, read_snapshot}
 use Rattle.book.specs.Memory.{Memory, line_in}
 use Rattle.reconstructor_answers.specs.declared.Applied.{Applied}
@@ -58,6 +54,7 @@ use Rattle.daybook_segments.specs.declared.Stop.{Stop}
 use Rattle.daybook_segments.specs.declared.Stop.TheVariants.{Never, At}
 use Rattle.daybook_replay.specs.Replay.{fresh_day, is_continued, ended_by, replayed, day_of}
 use Rattle.daybook_replay.proofs.Replays.{fresh-usable, length_none}
+use Rattle.message.specs.declared.L3Snapshot.{L3Snapshot}
 
 -- a number by which a replay can be stopped
 abbrev pub Stopping : ℕ → Type 0
@@ -82,21 +79,21 @@ error-passes errors.CapacityExceeded h = absurd_bool h
 
 -- what a snapshot is turned away for once 1, 2 and 3 are passed
 abbrev AllPass : Option SnapshotAnswer → Type 0
-AllPass none = Unit {0}
-AllPass (some a) = Passes (snapshot_number a)
+AllPass None = Unit {0}
+AllPass (Some a) = Passes (snapshot_number a)
 
-checked_pass : (b : Bool) (x : Option SnapshotError) → AllPass (check b boots.ListFull (first x boots.Rejected none))
+checked_pass : (b : Bool) (x : Option SnapshotError) → AllPass (check b boots.ListFull (first x boots.Rejected None))
 unfolding check first
 checked_pass true x = λ h. inr (inr refl)
-checked_pass false none = tt
-checked_pass false (some e) = error-passes e
+checked_pass false None = tt
+checked_pass false (Some e) = error-passes e
 
 module _ (b : BookReconstructor) (mem : Memory) (g : Segment) (bytes : List ℕ) (u : Usable ceiling b mem day_segments) where
-  read-passes : (r : ReadSnapshot) → AllPass (piece_refusal b.product_id b.rules (lengths_with mem day_segments) (view_with b mem g) r bytes)
+  read-passes : (r : Result L3Snapshot PieceError) → AllPass (piece_refusal b.product_id b.rules (lengths_with mem day_segments) (view_with b mem g) r bytes)
   unfolding accept_refusal
-  read-passes (snapshots.Refused pieces.NotAPiece) = piece-passes pieces.NotAPiece
-  read-passes (snapshots.Refused pieces.OutOfRange) = piece-passes pieces.OutOfRange
-  read-passes (snapshots.Snapshot s) = checked_pass (eqb day_segments b.segments) (snapshot_refusal b.product_id b.rules s (snapshot_line s bytes))
+  read-passes (Err pieces.NotAPiece) = piece-passes pieces.NotAPiece
+  read-passes (Err pieces.OutOfRange) = piece-passes pieces.OutOfRange
+  read-passes (Ok s) = checked_pass (eqb day_segments b.segments) (snapshot_refusal b.product_id b.rules s (snapshot_line s bytes))
 
   abbrev refusal : Option SnapshotAnswer
   refusal = boot_refusal ceiling b.product_id b.rules (lengths_with mem day_segments) (broken b mem) (view_with b mem g) bytes
@@ -109,17 +106,17 @@ module _ (b : BookReconstructor) (mem : Memory) (g : Segment) (bytes : List ℕ)
   unfolding bootstrapped_to
   snapshot-passes = go refusal refusal-passes (read_snapshot bytes)
     where
-      go : (o : Option SnapshotAnswer) → AllPass o → (r : ReadSnapshot) → Passes (snapshot_number (unless_refused o b mem day_segments g (taken r b mem day_segments g bytes)).answer)
-      go (some a) p r = p
-      go none p (snapshots.Refused pieces.NotAPiece) = piece-passes pieces.NotAPiece
-      go none p (snapshots.Refused pieces.OutOfRange) = piece-passes pieces.OutOfRange
-      go none p (snapshots.Snapshot s) = λ h. absurd_bool h
+      go : (o : Option SnapshotAnswer) → AllPass o → (r : Result L3Snapshot PieceError) → Passes (snapshot_number (unless_refused o b mem day_segments g (taken r b mem day_segments g bytes)).answer)
+      go (Some a) p r = p
+      go None p (Err pieces.NotAPiece) = piece-passes pieces.NotAPiece
+      go None p (Err pieces.OutOfRange) = piece-passes pieces.OutOfRange
+      go None p (Ok s) = λ h. absurd_bool h
 
 -- ---- a message
 
 abbrev AnswersPass : Option ApplyAnswer → Type 0
-AnswersPass none = Unit {0}
-AnswersPass (some a) = Passes (answer_number a)
+AnswersPass None = Unit {0}
+AnswersPass (Some a) = Passes (answer_number a)
 
 status-passes : (s : Status) → AnswersPass (status_refusal s)
 status-passes states.Empty = λ h. absurd_bool h
@@ -142,13 +139,13 @@ module _ (b : BookReconstructor) (mem : Memory) (g : Segment) (m : L3Message) wh
 
   turn-passes : (last : ℕ) (o : Option InvalidationKind) → Passes (answer_number (decided b mem last m o).answer)
   unfolding decided invalidated_reply accepted accepted_reply
-  turn-passes last (some k) = λ h. absurd_bool h
-  turn-passes last none = applied-passes (answer_by (event_deed b.rules (line_in mem b.rows) m.sequence m.event).effect)
+  turn-passes last (Some k) = λ h. absurd_bool h
+  turn-passes last None = applied-passes (answer_by (event_deed b.rules (line_in mem b.rows) m.sequence m.event).effect)
 
   gate-passes : (o : Option ApplyAnswer) → AnswersPass o → Passes (answer_number (after_gate b mem g m o).answer)
   unfolding after_gate refused_reply
-  gate-passes (some a) p = p
-  gate-passes none p = turn-passes (last_of b.status) (turn_refusal b.rules (line_in mem b.rows) (last_of b.status) m)
+  gate-passes (Some a) p = p
+  gate-passes None p = turn-passes (last_of b.status) (turn_refusal b.rules (line_in mem b.rows) (last_of b.status) m)
 
   message-passes : Usable ceiling b mem day_segments → Passes (answer_number (applied_to ceiling b mem day_segments g m).answer)
   message-passes u = rw (applied-trusted_to ceiling b mem day_segments g m u) (gate-passes (admit_refusal b.product_id b.status m) admit-passes)
@@ -160,20 +157,20 @@ module _ (b : BookReconstructor) (mem : Memory) (g : Segment) (bytes : List ℕ)
   unfolding played_to
   any-passes = go (is_snapshot bytes) (read_message bytes)
     where
-      go : (x : Bool) (r : ReadMessage) → Passes (cond x (by_bootstrap_to (bootstrapped_to ceiling b mem day_segments g bytes)) (play_message_to r b mem g)).number
+      go : (x : Bool) (r : Result L3Message PieceError) → Passes (cond x (by_bootstrap_to (bootstrapped_to ceiling b mem day_segments g bytes)) (play_message_to r b mem g)).number
       go true r = snapshot-passes b mem g bytes u
-      go false (messages.Refused e) = piece-passes e
-      go false (messages.Message m) = message-passes b mem g m u
+      go false (Err e) = piece-passes e
+      go false (Ok m) = message-passes b mem g m u
 
   any-usable : Usable ceiling (played_to b mem g bytes).book (played_to b mem g bytes).memory day_segments
   unfolding played_to
   any-usable = go (is_snapshot bytes) (read_message bytes)
     where
-      go : (x : Bool) (r : ReadMessage) → Usable ceiling (cond x (by_bootstrap_to (bootstrapped_to ceiling b mem day_segments g bytes)) (play_message_to r b mem g)).book
+      go : (x : Bool) (r : Result L3Message PieceError) → Usable ceiling (cond x (by_bootstrap_to (bootstrapped_to ceiling b mem day_segments g bytes)) (play_message_to r b mem g)).book
           (cond x (by_bootstrap_to (bootstrapped_to ceiling b mem day_segments g bytes)) (play_message_to r b mem g)).memory day_segments
       go true r = snapshot-usable b mem g bytes u
-      go false (messages.Refused e) = u
-      go false (messages.Message m) = usable-kept ceiling b mem day_segments u g m
+      go false (Err e) = u
+      go false (Ok m) = usable-kept ceiling b mem day_segments u g m
 
 -- a standing whose state passes 1, 2 and 3, with a whole list
 record Fit (s : DayBook) : Type 0 where

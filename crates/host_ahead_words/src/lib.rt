@@ -6,7 +6,7 @@ ghost use Rattle.queue.specs.Numbers.{assumption_word, flag_word, ahead_values, 
 ghost use Rattle.host_answers.specs.Answers.{answered, given, told_in};
 
 use host_answers::give;
-use queue::{AheadAnswer, Assumption, QueueAhead};
+use queue::{Assumption, QueueAhead, QueueError};
 
 fn assumption_word(first: Assumption) -> u64
     ensures { result ≡ assumption_word first }
@@ -44,11 +44,11 @@ fn give_ahead(out: &mut [u64], a: QueueAhead) -> u64
     )
 }
 
-pub fn store_ahead(out: &mut [u64], answer: AheadAnswer) -> u64
+pub fn store_ahead(out: &mut [u64], answer: Result<QueueAhead, QueueError>) -> u64
     ensures { answered result out.new ≡ told_in (ahead_told answer) out.old }
 {
     match answer {
-        AheadAnswer::Ahead(a) => give_ahead(out, a),
-        AheadAnswer::Refused(why) => why.number(),
+        Ok(a) => give_ahead(out, a),
+        Err(why) => why.number(),
     }
 }

@@ -7,13 +7,14 @@ ghost use Rattle.host_answers.specs.Answers.{answered, told_in};
 
 use host_answers::give;
 use host_words::kind_words;
-use reconstructor_view::{InvalidationAnswer, SegmentAnswer};
+use reconstructor_answers::Invalidation;
+use reconstructor_segments::Segment;
 
-pub fn store_invalidation(out: &mut [u64], answer: InvalidationAnswer) -> u64
+pub fn store_invalidation(out: &mut [u64], answer: Option<Invalidation>) -> u64
     ensures { answered result out.new ≡ told_in (invalidation_told answer) out.old }
 {
     match answer {
-        InvalidationAnswer::InForce(why) => {
+        Some(why) => {
             let kind = why.kind;
             let words = kind_words(kind);
             give(
@@ -28,15 +29,15 @@ pub fn store_invalidation(out: &mut [u64], answer: InvalidationAnswer) -> u64
                 ],
             )
         }
-        InvalidationAnswer::NotInvalid => 256,
+        None => 256,
     }
 }
 
-pub fn store_segment(out: &mut [u64], answer: SegmentAnswer) -> u64
+pub fn store_segment(out: &mut [u64], answer: Option<Segment>) -> u64
     ensures { answered result out.new ≡ told_in (segment_told answer) out.old }
 {
     match answer {
-        SegmentAnswer::Record(record) => {
+        Some(record) => {
             give(
                 out,
                 &[
@@ -53,6 +54,6 @@ pub fn store_segment(out: &mut [u64], answer: SegmentAnswer) -> u64
                 ],
             )
         }
-        SegmentAnswer::NoRecord => 256,
+        None => 256,
     }
 }

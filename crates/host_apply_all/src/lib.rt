@@ -11,7 +11,6 @@ use host_records::RECORD_WORDS;
 use host_word_tests::list_short;
 use host_words::load_book;
 use piece::MESSAGE_WORDS;
-use reconstructor_checks::Checked;
 use reconstructor_state::VenueRules;
 
 // Up to so many rows the index of a run has few places, past that many.
@@ -35,8 +34,8 @@ pub fn apply_all(
     }
     let book = load_book(state);
     match reconstructor_checks::own_checks(VenueRules::CEILING, book, rows, lent) {
-        Checked::Refused(why) => why.number(),
-        Checked::Passed => {
+        Err(why) => why.number(),
+        Ok(()) => {
             if answers.len() < messages.len() / MESSAGE_WORDS {
                 return 7;
             }

@@ -1,18 +1,16 @@
 -- What the exported calls on a book leave: a refusal leaves every lent word but the counts that 01 names, whatever the words hold; and the state
 -- words afterwards are the state that the rules leave.
 -- Assumes nothing.
+use Rattle.std.specs.Prelude.{Option, Some, None, Result, Ok, Err}
 use Prim.Native.Nat.{ℕ, ◌≤◌}
 use mathlib.Core.Path.{◌≡◌, refl, sym, ap, ap₂, ◌∙◌}
 use mathlib.Core.Bool.{Bool, true, false, cond, ◌||◌}
 use mathlib.Core.List.{List}
-use mathlib.Core.Option.{Option, none, some}
 use lib.Dec.{eqb, ltb}
 use native.Mathlib.Omega.{arith}
 use lib.ListN.{length, get_or, set}
 use lib.Seq.{set_out}
 use Rattle.message.specs.declared.L3Message.{L3Message}
-use Rattle.piece.specs.declared.ReadSnapshot.{ReadSnapshot}
-use Rattle.piece.specs.declared.ReadSnapshot.TheVariants.{Snapshot, Refused}
 use Rattle.piece.specs.Piece.{read_snapshot}
 use Rattle.book.specs.Memory.{Memory, memory, extent_of, line_in}
 use Rattle.reconstructor_answers.specs.declared.Applied.{Applied}
@@ -50,6 +48,8 @@ use Rattle.reconstructor_bootstrap.proofs.Laws.{refusal_of, counts_alone}
 use Rattle.host_records.proofs.Records.{relaid-same}
 use Rattle.host_words.proofs.Blocks.{block_same, raised-skipped, raised-product, raised-snapshots}
 use Rattle.host_words.proofs.RoundTrip.{block_back}
+use Rattle.message.specs.declared.L3Snapshot.{L3Snapshot}
+use Rattle.piece.specs.declared.PieceError.{PieceError}
 
 -- ---- `pinuglaw_apply`
 
@@ -69,8 +69,8 @@ refused-words st (answers.AwaitingSnapshot i) long h = raised-skipped st long
 -- a message whose turn it is is applied, or answers 16
 decided-acts : (b : BookReconstructor) (mem : Memory) (last : ℕ) (m : L3Message) (o : Option InvalidationKind) → acts (answer_number (decided b mem last m o).answer) ≡ true
 unfolding decided invalidated_reply accepted accepted_reply
-decided-acts b mem last m (some k) = refl
-decided-acts b mem last m none = go (answer_by (event_deed b.rules (line_in mem b.rows) m.sequence m.event).effect)
+decided-acts b mem last m (Some k) = refl
+decided-acts b mem last m None = go (answer_by (event_deed b.rules (line_in mem b.rows) m.sequence m.event).effect)
   where
     go : (a : Applied) → acts (answer_number (answers.Applied a)) ≡ true
     go BookChanged = refl
@@ -79,8 +79,8 @@ decided-acts b mem last m none = go (answer_by (event_deed b.rules (line_in mem 
 decided-state : (st : List ℕ) (mem : Memory) (last : ℕ) (m : L3Message) (o : Option InvalidationKind) → state_words ≤ length st
     → book_of (restored st (sets_status (decided (book_of st) mem last m o).answer) (decided (book_of st) mem last m o).book) ≡ (decided (book_of st) mem last m o).book
 unfolding decided invalidated_reply accepted accepted_reply
-decided-state st mem last m (some k) long = block_back st true _ _ _ _ long (λ e. absurd_bool e)
-decided-state st mem last m none long = block_back st true _ _ _ _ long (λ e. absurd_bool e)
+decided-state st mem last m (Some k) long = block_back st true _ _ _ _ long (λ e. absurd_bool e)
+decided-state st mem last m None long = block_back st true _ _ _ _ long (λ e. absurd_bool e)
 
 -- the last record rewritten with itself leaves the words of the list
 pub relaid-last : (sg : List ℕ) (n : ℕ) → relaid sg (relast (records_of sg) n (last_segment (records_of sg) n)) ≡ sg
@@ -99,15 +99,15 @@ module _ (st ws sg : List ℕ) (m : L3Message) (long : state_words ≤ length st
 
   gated-words : (o : Option ApplyAnswer) → acts (gated o).number ≡ false → gated o ≡ refusal_leaves (gated o).number st ws sg
   unfolding after_gate refused_reply
-  gated-words (some a) h = ap₂ (λ (l t : List ℕ). called (answer_number a) l ws t) (refused-words st a long h) (relaid-last sg (book_of st).segments)
-  gated-words none h = absurd_bool (sym (decided-acts (book_of st) (memory ws) (last_of (book_of st).status) m turn) ∙ h)
+  gated-words (Some a) h = ap₂ (λ (l t : List ℕ). called (answer_number a) l ws t) (refused-words st a long h) (relaid-last sg (book_of st).segments)
+  gated-words None h = absurd_bool (sym (decided-acts (book_of st) (memory ws) (last_of (book_of st).status) m turn) ∙ h)
 
   gated-state : (o : Option ApplyAnswer) → book_of (gated o).state ≡ (after_gate (book_of st) (memory ws) last m o).book
   unfolding after_gate refused_reply
-  gated-state (some a) =
+  gated-state (Some a) =
       let b = book_of st in
       rw (refusal-counts b a) (block_back st (sets_status a) b.status b.rows b.segments (refused_book b a).counts long (λ e. refl))
-  gated-state none = decided-state st (memory ws) (last_of (book_of st).status) m turn long
+  gated-state None = decided-state st (memory ws) (last_of (book_of st).status) m turn long
 
   module _ (top : ℕ) where
     abbrev ruled : BookCall
@@ -171,7 +171,7 @@ module _ (st ws sg bytes : List ℕ) where
   abbrev written : boot.Booted → BookCall
   written w = after_bootstrap st sg (boot.put_back (records_of sg) (book_of st).segments w)
 
-  abbrev found : Option SnapshotAnswer → ReadSnapshot → boot.Booted
+  abbrev found : Option SnapshotAnswer → Result L3Snapshot PieceError → boot.Booted
   found o r = boot.unless_refused o (book_of st) (memory ws) many last_one (boot.taken r (book_of st) (memory ws) many last_one bytes)
 
   abbrev rejected : SnapshotAnswer → BookCall
@@ -186,11 +186,11 @@ module _ (st ws sg bytes : List ℕ) where
   rejected-leaves : (x : SnapshotAnswer) → state_words ≤ length st → eqb (snapshot_number x) 0 ≡ false → rejected x ≡ snapshot_leaves (snapshot_number x) st ws sg
   rejected-leaves x long h = ap₂ (λ (l t : List ℕ). called (snapshot_number x) l ws t) (rejected-words st x long h) rejected-list
 
-  left-refused : (o : Option SnapshotAnswer) (r : ReadSnapshot) → state_words ≤ length st → eqb (written (found o r)).number 0 ≡ false
+  left-refused : (o : Option SnapshotAnswer) (r : Result L3Snapshot PieceError) → state_words ≤ length st → eqb (written (found o r)).number 0 ≡ false
       → written (found o r) ≡ snapshot_leaves (written (found o r)).number st ws sg
-  left-refused (some a) r long h = rejected-leaves a long h
-  left-refused none (Refused p) long h = rejected-leaves (piece_answer p) long h
-  left-refused none (Snapshot s) long h = absurd_bool h
+  left-refused (Some a) r long h = rejected-leaves a long h
+  left-refused None (Err p) long h = rejected-leaves (piece_answer p) long h
+  left-refused None (Ok s) long h = absurd_bool h
 
   abbrev refusal : Option SnapshotAnswer
   refusal = refusal_of ceiling (book_of st) (memory ws) (records_of sg) bytes
@@ -213,10 +213,10 @@ module _ (st ws sg bytes : List ℕ) where
         rw (counts_alone x b)
         (block_back st (eqb (snapshot_number x) 0) b.status b.rows b.segments (boot.refused_book x b).counts long (λ e. refl))
 
-    left-state : (o : Option SnapshotAnswer) (r : ReadSnapshot) → book_of (written (found o r)).state ≡ (found o r).book
-    left-state (some x) r = rejected-state x
-    left-state none (Refused e) = rejected-state (piece_answer e)
-    left-state none (Snapshot s) = block_back st true _ _ _ _ long (λ e. absurd_bool e)
+    left-state : (o : Option SnapshotAnswer) (r : Result L3Snapshot PieceError) → book_of (written (found o r)).state ≡ (found o r).book
+    left-state (Some x) r = rejected-state x
+    left-state None (Err e) = rejected-state (piece_answer e)
+    left-state None (Ok s) = block_back st true _ _ _ _ long (λ e. absurd_bool e)
 
     pub bootstrap-state : no_book st ≡ false → book_of (bootstrap_call st ws sg bytes).state ≡ (boot.bootstrapped ceiling (book_of st) (memory ws) (records_of sg) bytes).book
     unfolding bootstrap_call boot.bootstrapped boot.bootstrapped_to

@@ -1,11 +1,11 @@
 -- What an exported step leaves: a refusal leaves every lent word but the count that 10 and 17 raise and, at 17, the end of the handshake; a drop raises one
 -- count; and the words afterwards are the state and the handshake that the rules leave.
 -- Assumes nothing.
+use Rattle.std.specs.Prelude.{Option, Some, None}
 use Prim.Native.Nat.{ℕ, ◌≤◌}
 use mathlib.Core.Path.{◌≡◌, refl, sym, ap, ◌∙◌}
 use mathlib.Core.Bool.{Bool, true, false, not, cond, ◌||◌}
 use mathlib.Core.List.{List}
-use mathlib.Core.Option.{Option, none, some}
 use lib.Dec.{eqb, ltb}
 use lib.ListN.{length}
 use Rattle.message.specs.declared.L3Message.{L3Message}
@@ -76,7 +76,7 @@ module _ (top : ℕ) (st ws sg hs : List ℕ) (m : L3Message) (long : state_word
   last = last_segment (records_of sg) (book_of st).segments
 
   abbrev gate : Option StateError → Bool → Bool → Option StepAnswer
-  gate o x y = first o (λ (e : StateError). Stepped (answers.Unusable e)) (check x OtherSegment (check y (Stepped answers.AmountOutOfRange) none))
+  gate o x y = first o (λ (e : StateError). Stepped (answers.Unusable e)) (check x OtherSegment (check y (Stepped answers.AmountOutOfRange) None))
 
   abbrev worked : Option StepAnswer → Bool → StepWorked
   worked o d =
@@ -97,13 +97,13 @@ module _ (top : ℕ) (st ws sg hs : List ℕ) (m : L3Message) (long : state_word
   left-refused : (o : Option StateError) (x y d : Bool) → step_acts (left (gate o x y) d).number ≡ false
       → left (gate o x y) d ≡ step_refusal_leaves (left (gate o x y) d).number st ws sg hs
   unfolding unless_refused first check applied
-  left-refused (some LimitAboveCeiling) x y d h = kept 1
-  left-refused (some LentTooShort) x y d h = kept 2
-  left-refused (some MalformedBook) x y d h = kept 3
-  left-refused none true y d h = kept 9
-  left-refused none false true d h = kept 5
-  left-refused none false false true h = absurd_bool h
-  left-refused none false false false h =
+  left-refused (Some LimitAboveCeiling) x y d h = kept 1
+  left-refused (Some LentTooShort) x y d h = kept 2
+  left-refused (Some MalformedBook) x y d h = kept 3
+  left-refused None true y d h = kept 9
+  left-refused None false true d h = kept 5
+  left-refused None false false true h = absurd_bool h
+  left-refused None false false false h =
       let a = (applied top (book_of st) (memory ws) (records_of sg) m).answer in
       let refused = (or_no (acts (answer_number a)) (eqb (answer_number a) 512) h).0 in
       ap (λ (c : BookCall). step_called c.number c.state c.rows c.segments (handshake_left hs (after (handshake_of hs) a))) (applied-words st ws sg m long top refused) ∙
@@ -111,23 +111,23 @@ module _ (top : ℕ) (st ws sg hs : List ℕ) (m : L3Message) (long : state_word
 
   left-dropped : (o : Option StateError) (x y d : Bool) → eqb (left (gate o x y) d).number 512 ≡ true → left (gate o x y) d ≡ step_called 512 (raised st 23) ws sg hs
   unfolding unless_refused first check
-  left-dropped (some LimitAboveCeiling) x y d h = absurd_bool (sym h)
-  left-dropped (some LentTooShort) x y d h = absurd_bool (sym h)
-  left-dropped (some MalformedBook) x y d h = absurd_bool (sym h)
-  left-dropped none true y d h = absurd_bool (sym h)
-  left-dropped none false true d h = absurd_bool (sym h)
-  left-dropped none false false true h = rw (raised-dropped st long, relaid-last sg (book_of st).segments, handshake-same hs full bit)
-  left-dropped none false false false h = absurd_bool (sym h ∙ not-dropped (applied_to top (book_of st) (memory ws) (length (records_of sg)) last m).answer)
+  left-dropped (Some LimitAboveCeiling) x y d h = absurd_bool (sym h)
+  left-dropped (Some LentTooShort) x y d h = absurd_bool (sym h)
+  left-dropped (Some MalformedBook) x y d h = absurd_bool (sym h)
+  left-dropped None true y d h = absurd_bool (sym h)
+  left-dropped None false true d h = absurd_bool (sym h)
+  left-dropped None false false true h = rw (raised-dropped st long, relaid-last sg (book_of st).segments, handshake-same hs full bit)
+  left-dropped None false false false h = absurd_bool (sym h ∙ not-dropped (applied_to top (book_of st) (memory ws) (length (records_of sg)) last m).answer)
 
   left-state : (o : Option StepAnswer) (d : Bool) → book_of (left o d).state ≡ (worked o d).book
   unfolding unless_refused applied
-  left-state (some a) d =
+  left-state (Some a) d =
       let b = book_of st in
       block_back st (step_sets a) b.status b.rows b.segments b.counts long (λ e. refl)
-  left-state none true =
+  left-state None true =
       let b = book_of st in
       block_back st false b.status b.rows b.segments (counted_in b.counts HandshakeDropped) long (λ e. refl)
-  left-state none false = applied-state st ws sg m long top
+  left-state None false = applied-state st ws sg m long top
 
 -- 01's checks on a state
 abbrev state_of : List ℕ → List ℕ → List ℕ → Option StateError

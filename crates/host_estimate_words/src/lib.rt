@@ -9,7 +9,7 @@ ghost use Rattle.host_estimate_words.specs.Estimates.{estimate_words, anchor_of,
 use host_answers::give;
 use host_words::{bits, load_side, side_word, signed};
 use message::OrderId;
-use queue::{Anchor, EstimateAnswer, QueueEstimate};
+use queue::{Anchor, QueueError, QueueEstimate};
 use reconstructor_segments::SegmentName;
 
 // Words of an estimate.
@@ -105,11 +105,11 @@ fn give_estimate(out: &mut [u64], estimate: QueueEstimate) -> u64
     )
 }
 
-pub fn store_estimate(out: &mut [u64], answer: EstimateAnswer) -> u64
+pub fn store_estimate(out: &mut [u64], answer: Result<QueueEstimate, QueueError>) -> u64
     ensures { answered result out.new ≡ told_in (estimate_told answer) out.old }
 {
     match answer {
-        EstimateAnswer::Estimate(estimate) => give_estimate(out, estimate),
-        EstimateAnswer::Refused(why) => why.number(),
+        Ok(estimate) => give_estimate(out, estimate),
+        Err(why) => why.number(),
     }
 }

@@ -1,11 +1,11 @@
 -- What a level read comes to: where something stands in its way, and where its answer has a word.
 -- Assumes nothing.
+use Rattle.std.specs.Prelude.{Option, Some, None}
 use Prim.Native.Nat.{ℕ, ◌≤◌, ◌<◌}
 use native.Mathlib.Omega.{arith}
 use mathlib.Core.Path.{◌≡◌, refl, sym, ap, ◌∙◌}
 use mathlib.Core.Bool.{Bool, true, false, cond}
 use mathlib.Core.List.{List}
-use mathlib.Core.Option.{Option, none, some}
 use borrow.Author.Tests.{ltb-false, lt-ltb, le-ltb, eq-eqb, ne_eqb, eqb-true, eqb-false}
 use lib.Dec.{eqb, ltb}
 use lib.ListN.{length, get_or}
@@ -102,8 +102,8 @@ seven OutputTooSmall = refl
 level-lastly : (o : Option ViewError) (last : ℕ) (s : Shows) (sc out : List ℕ)
     → lastly (sequence_told (sequence_of o last)).number ≡ lastly (level_told (level_read o s sc out).answer).number
 unfolding sequence_of level_read
-level-lastly (some e) last s sc out = refl
-level-lastly none last s sc out = seven s.answer
+level-lastly (Some e) last s sc out = refl
+level-lastly None last s sc out = seven s.answer
 
 module _ (k turned : ℕ) (o : Option ViewError) (last : ℕ) (sc out count : List ℕ) (stop : k ≡ stop_of turned (length count) (sequence_told (sequence_of o last)).number) where
   pub level-stopped : (s : Shows) → (k ≡ 0 → ⊥) → level_called k sc out count ≡ unless_turned turned (λ (n : ℕ). level_called n sc out count) (after_level sc out count (level_read o s sc out))

@@ -5,23 +5,23 @@ ghost use Rattle.std.specs.Prelude.{◌≡◌};
 ghost use Rattle.piece.specs.Encode.{kind_byte, done_reason_byte, change_reason_byte, present_bit, optional_word};
 
 use host_words::bits;
-use message::{ChangeReason, DoneReason, L3Event, OptionalAmount};
+use message::{ChangeReason, DoneReason, L3Event};
 
-pub fn optional_bits(amount: OptionalAmount) -> u64
+pub fn optional_bits(amount: Option<i64>) -> u64
     ensures { result ≡ optional_word amount }
 {
     match amount {
-        OptionalAmount::Absent => 0,
-        OptionalAmount::Given(a) => bits(a),
+        None => 0,
+        Some(a) => bits(a),
     }
 }
 
-pub fn is_present(amount: OptionalAmount) -> u64
+pub fn is_present(amount: Option<i64>) -> u64
     ensures { result ≡ present_bit amount }
 {
     match amount {
-        OptionalAmount::Absent => 0,
-        OptionalAmount::Given(_) => 1,
+        None => 0,
+        Some(_) => 1,
     }
 }
 

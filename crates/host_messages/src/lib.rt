@@ -8,9 +8,7 @@ ghost use Rattle.host_words.specs.Block.{optional_of, received_of, open_of, done
 
 use host_message_values::{change_reason_word, done_reason_word, is_present, optional_bits};
 use host_words::{bits, load_side, side_word, signed};
-use message::{
-    ChangeReason, DoneReason, L3Event, L3Message, L3Side, OptionalAmount, OrderId, ProductId,
-};
+use message::{ChangeReason, DoneReason, L3Event, L3Message, L3Side, OrderId, ProductId};
 
 // ---- an event's words: its fields in the Rust's order, and 0 past the last
 
@@ -63,9 +61,9 @@ fn open_words(order_id: OrderId, side: L3Side, price: i64, remaining: i64) -> [u
 fn done_words(
     order_id: OrderId,
     side: L3Side,
-    price: OptionalAmount,
+    price: Option<i64>,
     reason: DoneReason,
-    remaining: OptionalAmount,
+    remaining: Option<i64>,
 ) -> [u64; 16]
     ensures { result ≡ event_words (L3Event.Done order_id side price reason remaining) }
 {
@@ -122,12 +120,12 @@ fn change_words(
     order_id: OrderId,
     side: L3Side,
     reason: ChangeReason,
-    price: OptionalAmount,
-    old_size: OptionalAmount,
-    new_size: OptionalAmount,
-    old_price: OptionalAmount,
-    new_price: OptionalAmount,
-    new_funds: OptionalAmount,
+    price: Option<i64>,
+    old_size: Option<i64>,
+    new_size: Option<i64>,
+    old_price: Option<i64>,
+    new_price: Option<i64>,
+    new_funds: Option<i64>,
 ) -> [u64; 16]
     ensures { result ≡ event_words (L3Event.Change order_id side reason price old_size new_size old_price new_price new_funds) }
 {
@@ -197,12 +195,12 @@ pub fn event_words(event: L3Event) -> [u64; 16]
     }
 }
 
-fn load_optional(present: u64, word: u64) -> OptionalAmount
+fn load_optional(present: u64, word: u64) -> Option<i64>
     ensures { result ≡ optional_of present word }
 {
     match present {
-        0 => OptionalAmount::Absent,
-        _ => OptionalAmount::Given(signed(word)),
+        0 => None,
+        _ => Some(signed(word)),
     }
 }
 

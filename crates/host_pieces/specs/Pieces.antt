@@ -1,21 +1,22 @@
 -- What the exported readers answer and write: 4 or 5 as the reader of pieces says, last 7 where fewer words are lent than the value has, else 0. Only a success writes.
-use Rattle.std.specs.Prelude.{ℕ, List, ◌++◌, cond, ltb, length, drop}
+use Rattle.std.specs.Prelude.{ℕ, List, ◌++◌, cond, ltb, length, drop, Result}
 use Rattle.message.specs.declared.SnapshotOrder.{SnapshotOrder}
-use Rattle.piece.specs.declared.ReadMessage.{ReadMessage}
-use Rattle.piece.specs.declared.ReadSnapshot.{ReadSnapshot}
 use Rattle.piece.specs.Words.{order_words, read_message_told, read_snapshot_told}
 use Rattle.host_answers.specs.Answers.{told_in}
+use Rattle.message.specs.declared.L3Message.{L3Message}
+use Rattle.message.specs.declared.L3Snapshot.{L3Snapshot}
+use Rattle.piece.specs.declared.PieceError.{PieceError}
 
-abbrev pub message_number : List ℕ → ReadMessage → ℕ
+abbrev pub message_number : List ℕ → Result L3Message PieceError → ℕ
 message_number out r = (told_in (read_message_told r) out).number
 
-abbrev pub message_out : List ℕ → ReadMessage → List ℕ
+abbrev pub message_out : List ℕ → Result L3Message PieceError → List ℕ
 message_out out r = (told_in (read_message_told r) out).out
 
-abbrev pub snapshot_number : List ℕ → ReadSnapshot → ℕ
+abbrev pub snapshot_number : List ℕ → Result L3Snapshot PieceError → ℕ
 snapshot_number out r = (told_in (read_snapshot_told r) out).number
 
-abbrev pub snapshot_out : List ℕ → ReadSnapshot → List ℕ
+abbrev pub snapshot_out : List ℕ → Result L3Snapshot PieceError → List ℕ
 snapshot_out out r = (told_in (read_snapshot_told r) out).out
 
 abbrev pub order_number : List ℕ → ℕ

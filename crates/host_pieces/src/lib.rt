@@ -7,14 +7,13 @@ ghost use Rattle.host_pieces.specs.Pieces.{snapshot_number, snapshot_out, order_
 
 use host_words::bits;
 use laws::put;
-use piece::ReadSnapshot;
 
 pub fn read_snapshot(bytes: &[u8], out: &mut [u64]) -> u64
     ensures number { result ≡ snapshot_number out.old (read_snapshot bytes.now) }
     ensures words { out.new ≡ snapshot_out out.old (read_snapshot bytes.now) }
 {
     match piece_snapshots::read_snapshot(bytes) {
-        ReadSnapshot::Snapshot(v) => {
+        Ok(v) => {
             if out.len() < 5 {
                 return 7;
             }
@@ -32,7 +31,7 @@ pub fn read_snapshot(bytes: &[u8], out: &mut [u64]) -> u64
             );
             0
         }
-        ReadSnapshot::Refused(e) => e.number(),
+        Err(e) => e.number(),
     }
 }
 

@@ -8,14 +8,14 @@ ghost use Rattle.host_pieces.specs.Pieces.{message_number, message_out};
 use host_message_values::kind_word;
 use host_messages::event_words;
 use laws::put;
-use piece::{MESSAGE_WORDS, ReadMessage};
+use piece::MESSAGE_WORDS;
 
 pub fn read_message(bytes: &[u8], out: &mut [u64]) -> u64
     ensures number { result ≡ message_number out.old (read_message bytes.now) }
     ensures words { out.new ≡ message_out out.old (read_message bytes.now) }
 {
     match piece_messages::read_message(bytes) {
-        ReadMessage::Message(m) => {
+        Ok(m) => {
             if out.len() < MESSAGE_WORDS {
                 return 7;
             }
@@ -35,6 +35,6 @@ pub fn read_message(bytes: &[u8], out: &mut [u64]) -> u64
             put(out, 5, &event_words(event));
             0
         }
-        ReadMessage::Refused(e) => e.number(),
+        Err(e) => e.number(),
     }
 }

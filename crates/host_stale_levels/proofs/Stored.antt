@@ -1,9 +1,9 @@
 -- What the stale read comes to, as the laws of the level reads say it (Stored.antt of `host_level_stops`).
 -- Assumes nothing.
+use Rattle.std.specs.Prelude.{Option, Some, None}
 use Prim.Native.Nat.{ℕ}
 use mathlib.Core.Path.{◌≡◌, refl, ap, ◌∙◌}
 use mathlib.Core.List.{List, []}
-use mathlib.Core.Option.{Option, none, some}
 use lib.ListN.{length}
 use Rattle.reconstructor_answers.specs.declared.StateError.{StateError}
 use Rattle.reconstructor_state.specs.declared.Status.{Status}
@@ -23,10 +23,10 @@ unshown o t = (stale_told (stale_read o t (shows OutputTooSmall [] []) [] []).an
 
 stale-lastly : (o : Option StateError) (t : Status) (s : Shows) (sc out : List ℕ) → lastly (unshown o t) ≡ lastly (stale_told (stale_read o t s sc out).answer).number
 unfolding stale_read
-stale-lastly (some e) t s sc out = refl
-stale-lastly none statuses.Empty s sc out = refl
-stale-lastly none (statuses.Valid last) s sc out = refl
-stale-lastly none (statuses.Invalidated i) s sc out = seven s.answer
+stale-lastly (Some e) t s sc out = refl
+stale-lastly None statuses.Empty s sc out = refl
+stale-lastly None (statuses.Valid last) s sc out = refl
+stale-lastly None (statuses.Invalidated i) s sc out = seven s.answer
 
 module _ (k turned : ℕ) (o : Option StateError) (t : Status) (sc out count : List ℕ) (stop : k ≡ stop_of turned (length count) (unshown o t)) where
   pub stale-stopped : (s : Shows) → (k ≡ 0 → ⊥) → level_called k sc out count ≡ unless_turned turned (λ (n : ℕ). level_called n sc out count) (after_stale sc out count (stale_read o t s sc out))

@@ -16,7 +16,6 @@ use host_answers_levels::store_stale;
 use host_boundary::boundary;
 use host_word_tests::{no_bit, scratch_short};
 use host_words::{load_book, load_side};
-use reconstructor_checks::Checked;
 use reconstructor_state::{BookReconstructor, Status, VenueRules};
 
 // The number of a read of an invalid book whose answer has no room: 7, or 256 where the book is not invalid, unless it is turned away before. `short` says that its scratch is too short.
@@ -24,8 +23,8 @@ fn unwritten_stale(book: BookReconstructor, rows: &[u64], short: bool) -> u64
     ensures { result ≡ lastly (stale_told (stale_read (read_refusal_of ceiling book (memory rows.now) short) book.status (shows OutputTooSmall [] []) [] []).answer).number }
 {
     match reconstructor_view::read_checks(VenueRules::CEILING, book, rows, short) {
-        Checked::Refused(why) => why.number(),
-        Checked::Passed => {
+        Err(why) => why.number(),
+        Ok(()) => {
             let status = book.status;
             match status {
                 Status::Empty => 256,

@@ -8,6 +8,7 @@ ghost use Rattle.host_views.specs.Views.{last_call, best_call, audit_call};
 use host_answers_best::{store_best, store_last};
 use host_boundary::boundary;
 use host_words::load_book;
+use reconstructor_view::audited_number;
 
 pub fn last_sequence(state: &[u64], rows: &[u64], out: &mut [u64]) -> u64
     ensures { answered result out.new ≡ last_call state.now rows.now out.old }
@@ -39,5 +40,5 @@ pub fn audit(state: &[u64], rows: &[u64]) -> u64
         return stop;
     }
     let answer = reconstructor_view_valid::audit(load_book(state), rows);
-    answer.number()
+    audited_number(answer)
 }

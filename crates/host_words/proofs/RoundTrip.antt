@@ -1,5 +1,6 @@
 -- Decoding undoes encoding: a state from its block, and a message from its words, whatever stands behind them.
 -- Assumes nothing.
+use Rattle.std.specs.Prelude.{Option, Some, None}
 use Prim.Native.Nat.{ℕ, zero, suc, ◌+◌, ◌≤◌}
 use native.Mathlib.Omega.{arith}
 use native.Mathlib.Numerals.{add-one}
@@ -15,8 +16,6 @@ use Rattle.message.specs.declared.DoneReason.{DoneReason}
 use Rattle.message.specs.declared.DoneReason.TheVariants.{Filled, Canceled}
 use Rattle.message.specs.declared.ChangeReason.{ChangeReason}
 use Rattle.message.specs.declared.ChangeReason.TheVariants.{Stp, ModifyOrder}
-use Rattle.message.specs.declared.OptionalAmount.{OptionalAmount}
-use Rattle.message.specs.declared.OptionalAmount.TheVariants.{Absent, Given}
 use Rattle.message.specs.declared.L3Event.{L3Event}
 use Rattle.message.specs.declared.L3Event.TheVariants.{Received, Open, Done, Match, Change, Unsupported}
 use Rattle.message.specs.declared.L3Message.{L3Message}
@@ -112,10 +111,10 @@ unfolding change_reason_of
 change_reason-back Stp = refl
 change_reason-back ModifyOrder = refl
 
-optional-back : (a : OptionalAmount) → Optional a → optional_of (present_bit a) (optional_word a) ≡ a
+optional-back : (a : Option ℤ) → Optional a → optional_of (present_bit a) (optional_word a) ≡ a
 unfolding optional_of
-optional-back Absent h = refl
-optional-back (Given z) h = ap Given (back z h)
+optional-back None h = refl
+optional-back (Some z) h = ap Some (back z h)
 
 event-back : (a b c d : ℕ) (e : L3Event) (rest : List ℕ) → EventFits e → event_of (kind_byte e ∷ a ∷ b ∷ c ∷ d ∷ (event_words e ++ rest)) ≡ e
 unfolding event_of received_of open_of done_of match_of change_of

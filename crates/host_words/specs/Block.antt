@@ -1,10 +1,8 @@
 -- A state and a message from words, and a state as words. Any words are read as some state and some message; a kind, side, reason, presence, status or number that none has is
 -- turned away before (crate `host_boundary`).
-use Rattle.std.specs.Prelude.{ℕ, ◌%◌, List, [], ◌∷◌, ◌++◌, Bool, true, false, cond, eqb, get_or, set, take, drop}
+use Rattle.std.specs.Prelude.{ℕ, ◌%◌, List, [], ◌∷◌, ◌++◌, Bool, true, false, cond, eqb, get_or, set, take, drop, Option, Some, None}
 use Rattle.std.specs.Int.{w64}
 use Rattle.std.proofs.Common.{to_z}
-use Rattle.message.specs.declared.OptionalAmount.{OptionalAmount}
-use Rattle.message.specs.declared.OptionalAmount.TheVariants.{Absent, Given}
 use Rattle.message.specs.declared.OrderId.{OrderId}
 use Rattle.message.specs.declared.L3Event.{L3Event}
 use Rattle.message.specs.declared.L3Event.TheVariants.{Received, Open, Done, Match, Change, Unsupported}
@@ -174,8 +172,8 @@ restored st sets b = take 6 st ++ status_after st sets b.status ++ rest_list b +
 --   unsupported  its number 5, of 32 bits
 -- Amounts are two's complement; words that no field names do not matter.
 
-unfoldable pub optional_of : ℕ → ℕ → OptionalAmount
-optional_of present word = cond (eqb present 0) Absent (Given (to_z w64 word))
+unfoldable pub optional_of : ℕ → ℕ → Option ℤ
+optional_of present word = cond (eqb present 0) None (Some (to_z w64 word))
 
 abbrev pub id_of : ℕ → ℕ → OrderId
 id_of high low = record { high = high; low = low }

@@ -1,11 +1,11 @@
 -- The reads that must answer, and the number of each that is turned away: of a book that follows the ledger, 3 aside, a read is turned away by the ledger's view.
 -- Assumes nothing.
+use Rattle.std.specs.Prelude.{Option, Some, None, Ok}
 use Prim.Native.Nat.{ℕ, ◌*◌, ◌≤◌}
 use native.Mathlib.Omega.{arith}
 use mathlib.Core.Bool.{Bool, true, false, ◌||◌, cond}
 use mathlib.Core.Path.{◌≡◌, refl, sym, ap, ◌∙◌}
 use mathlib.Core.List.{List, [], ◌∷◌}
-use mathlib.Core.Option.{Option, none, some}
 use borrow.Author.Tests.{le-ltb}
 use lib.Dec.{ltb}
 use lib.IntN.{ℤ}
@@ -34,7 +34,6 @@ use Rattle.reconstructor_checks.specs.StateChecks.{over_ceiling, memory_short, b
 use Rattle.reconstructor_checks.proofs.StateChecks.{sound, memory-room}
 use Rattle.reconstructor_view.specs.declared.ViewError.{ViewError}
 use Rattle.reconstructor_view.specs.declared.ViewError.TheVariants as errors
-use Rattle.reconstructor_view.specs.declared.SequenceAnswer.TheVariants as sequences
 use Rattle.reconstructor_view.specs.Numbers.{view_error_number}
 use Rattle.reconstructor_view.specs.ValueReads.{read_refusal, view_refusal, read_refusal_of, view_refusal_of, sequence_of, best_of, audited_of, last_sequence}
 use Rattle.reconstructor_reads.specs.declared.Shown.TheVariants.{Entries}
@@ -53,26 +52,26 @@ use Rattle.ledger.proofs.Follow.{Follows, broken-rows}
 
 -- an invalid one turns a read away, by its number
 invalid-says : (top : ℕ) (v : VenueRules) (lent : Extent) (short : Bool) (s : Status) → standing_of s ≡ invalid
-    → (e : ViewError) × (view_refusal top v lent short false s ≡ some e) × (view_error_number e ≡ invalid_number top v lent short)
+    → (e : ViewError) × (view_refusal top v lent short false s ≡ Some e) × (view_error_number e ≡ invalid_number top v lent short)
 unfolding view_refusal read_refusal check first
 invalid-says top v lent short statuses.Empty h = let z : ◌≡◌ {A = ℕ} 0 1 = cc in absurd (omega arith)
 invalid-says top v lent short (statuses.Valid last) h = let z : ◌≡◌ {A = ℕ} 0 1 = cc in absurd (omega arith)
 invalid-says top v lent short (statuses.Invalidated i) h = go (over_ceiling top v) (memory_short v lent || short)
   where
     go : (x y : Bool)
-        → (e : ViewError) × (first (check x LimitAboveCeiling (check y LentTooShort (check false MalformedBook none))) errors.Unusable (some (errors.Invalidated i)) ≡ some e)
+        → (e : ViewError) × (first (check x LimitAboveCeiling (check y LentTooShort (check false MalformedBook None))) errors.Unusable (Some (errors.Invalidated i)) ≡ Some e)
         × (view_error_number e ≡ cond x 1 (cond y 2 18))
     go true y = (errors.Unusable LimitAboveCeiling, refl, refl)
     go false true = (errors.Unusable LentTooShort, refl, refl)
     go false false = (errors.Invalidated i, refl, refl)
 
 -- lent enough, none of 1, 2 and 3
-enough-read : (top : ℕ) (v : VenueRules) (lent : Extent) (scratch : ℕ) → Enough top v lent scratch → read_refusal top v lent (ltb scratch v.max_orders) false ≡ none
+enough-read : (top : ℕ) (v : VenueRules) (lent : Extent) (scratch : ℕ) → Enough top v lent scratch → read_refusal top v lent (ltb scratch v.max_orders) false ≡ None
 unfolding read_refusal
 enough-read top v lent scratch e =
     goes_on _ _ _ _ e.within (goes_on _ _ _ _ (or_both _ _ e.memory (le-ltb scratch v.max_orders e.room)) (goes_on _ _ _ _ refl refl))
 
-valid-says : (top : ℕ) (v : VenueRules) (lent : Extent) (scratch : ℕ) (s : Status) → standing_of s ≡ valid → Enough top v lent scratch → view_refusal top v lent (ltb scratch v.max_orders) false s ≡ none
+valid-says : (top : ℕ) (v : VenueRules) (lent : Extent) (scratch : ℕ) (s : Status) → standing_of s ≡ valid → Enough top v lent scratch → view_refusal top v lent (ltb scratch v.max_orders) false s ≡ None
 unfolding view_refusal
 valid-says top v lent scratch statuses.Empty h e = let z : ◌≡◌ {A = ℕ} 0 1 = cc in absurd (omega arith)
 valid-says top v lent scratch (statuses.Valid last) h e = first_on _ _ _ _ (enough-read top v lent scratch e) refl
@@ -88,11 +87,11 @@ queue-length : (os : List Resting) → length os ≡ length (shown_queue os)
 queue-length [] = refl
 queue-length (o ∷ os) = omega (arith, queue-length os)
 
-level-answer : (o : Option ViewError) (w : Shows) (sc out : List ℕ) → o ≡ none → (level_read o w sc out).answer ≡ levels.Shown w.answer
+level-answer : (o : Option ViewError) (w : Shows) (sc out : List ℕ) → o ≡ None → (level_read o w sc out).answer ≡ levels.Shown w.answer
 unfolding level_read
 level-answer o w sc out h = rw h
 
-stale-answer : (top : ℕ) (b : BookReconstructor) (mem : Memory) (sc : List ℕ) (t : Status) (w : Shows) (out : List ℕ) → read_refusal_of top b mem (scratch_short b sc) ≡ none → standing_of t ≡ invalid
+stale-answer : (top : ℕ) (b : BookReconstructor) (mem : Memory) (sc : List ℕ) (t : Status) (w : Shows) (out : List ℕ) → read_refusal_of top b mem (scratch_short b sc) ≡ None → standing_of t ≡ invalid
     → (stale_read (read_refusal_of top b mem (scratch_short b sc)) t w sc out).answer ≡ stales.Shown w.answer
 unfolding stale_read
 stale-answer top b mem sc statuses.Empty w out h q = let z : ◌≡◌ {A = ℕ} 0 1 = cc in absurd (omega arith)
@@ -130,11 +129,11 @@ module _ (top : ℕ) (c : Config) (r : Extent) (s : ℕ) (w : World) (v : View) 
   read_own short = go (memory_short w.book.rules (extent_of mem) || short) refl
     where
       go : (y : Bool) → (memory_short w.book.rules (extent_of mem) || short) ≡ y
-          → check (over_ceiling top w.book.rules) LimitAboveCeiling (check (memory_short w.book.rules (extent_of mem) || short) LentTooShort (check (broken w.book mem) MalformedBook none))
-          ≡ check (over_ceiling top w.book.rules) LimitAboveCeiling (check (memory_short w.book.rules (extent_of mem) || short) LentTooShort (check false MalformedBook none))
+          → check (over_ceiling top w.book.rules) LimitAboveCeiling (check (memory_short w.book.rules (extent_of mem) || short) LentTooShort (check (broken w.book mem) MalformedBook None))
+          ≡ check (over_ceiling top w.book.rules) LimitAboveCeiling (check (memory_short w.book.rules (extent_of mem) || short) LentTooShort (check false MalformedBook None))
       go true p = ap (check (over_ceiling top w.book.rules) LimitAboveCeiling) (fails _ _ _ p ∙ sym (fails _ _ _ p))
       go false p =
-          ap (λ (t : Bool). check (over_ceiling top w.book.rules) LimitAboveCeiling (check (memory_short w.book.rules (extent_of mem) || short) LentTooShort (check t MalformedBook none)))
+          ap (λ (t : Bool). check (over_ceiling top w.book.rules) LimitAboveCeiling (check (memory_short w.book.rules (extent_of mem) || short) LentTooShort (check t MalformedBook None)))
           (unbroken (or_no (memory_short w.book.rules (extent_of mem)) short p).0)
 
   read_is : (short : Bool) → read_refusal_of top w.book mem short ≡ read_refusal top c.rules (extent_of mem) short false
@@ -150,13 +149,13 @@ module _ (top : ℕ) (c : Config) (r : Extent) (s : ℕ) (w : World) (v : View) 
   -- ---- invalid
 
   abbrev Away : Bool → Type 0
-  Away short = (e : ViewError) × (view_refusal_of top w.book mem short ≡ some e) × (view_error_number e ≡ invalid_number top c.rules (extent_of mem) short)
+  Away short = (e : ViewError) × (view_refusal_of top w.book mem short ≡ Some e) × (view_error_number e ≡ invalid_number top c.rules (extent_of mem) short)
 
   away : standing_of v.status ≡ invalid → (short : Bool) → Away short
   away h short = let x = invalid-says top c.rules (extent_of mem) short v.status h in (x.0, view_is short ∙ x.1, x.2)
 
   scratch-away : standing_of v.status ≡ invalid → (sc : List ℕ)
-      → (e : ViewError) × (view_refusal_of top w.book mem (scratch_short w.book sc) ≡ some e) × (view_error_number e ≡ invalid_number top c.rules (extent_of mem) (ltb (length sc) c.rules.max_orders))
+      → (e : ViewError) × (view_refusal_of top w.book mem (scratch_short w.book sc) ≡ Some e) × (view_error_number e ≡ invalid_number top c.rules (extent_of mem) (ltb (length sc) c.rules.max_orders))
   scratch-away h sc = let x = away h (scratch_short w.book sc) in (x.0, x.1, x.2 ∙ ap (invalid_number top c.rules (extent_of mem)) (short_is sc))
 
   level-away : standing_of v.status ≡ invalid → (k : Content) (sc out : List ℕ)
@@ -186,11 +185,11 @@ module _ (top : ℕ) (c : Config) (r : Extent) (s : ℕ) (w : World) (v : View) 
     lent-memory : memory_short w.book.rules (extent_of mem) ≡ false
     lent-memory = ap (λ (x : VenueRules). memory_short x (extent_of mem)) rules_are ∙ e.memory
 
-    viewed-none : standing_of v.status ≡ valid → view_refusal_of top w.book mem (scratch_short w.book sc) ≡ none
+    viewed-none : standing_of v.status ≡ valid → view_refusal_of top w.book mem (scratch_short w.book sc) ≡ None
     viewed-none h =
         ap (view_refusal_of top w.book mem) (short_is sc) ∙ view_is (ltb (length sc) c.rules.max_orders) ∙ valid-says top c.rules (extent_of mem) (length sc) v.status h e
 
-    read_none : read_refusal_of top w.book mem (scratch_short w.book sc) ≡ none
+    read_none : read_refusal_of top w.book mem (scratch_short w.book sc) ≡ None
     read_none =
         ap (read_refusal_of top w.book mem) (short_is sc) ∙ read_is (ltb (length sc) c.rules.max_orders) ∙ enough-read top c.rules (extent_of mem) (length sc) e
 
@@ -227,9 +226,9 @@ module _ (top : ℕ) (c : Config) (r : Extent) (s : ℕ) (w : World) (v : View) 
         (shows_all w.book.rules.max_orders (levels_content l2_words t os) sc out _ (levels-many t)
         (omega (arith, k, levels-many t, length-levels 2 (omega arith) t os (prices t (line_of os)))))
 
-  pub last-answers : standing_of v.status ≡ valid → Enough top c.rules (extent_of mem) c.rules.max_orders → last_sequence top w.book mem ≡ sequences.Valid (last_of v.status)
+  pub last-answers : standing_of v.status ≡ valid → Enough top c.rules (extent_of mem) c.rules.max_orders → last_sequence top w.book mem ≡ Ok (last_of v.status)
   unfolding sequence_of
   last-answers h e =
       let z : ltb c.rules.max_orders c.rules.max_orders ≡ false = le-ltb c.rules.max_orders c.rules.max_orders (omega arith) in
-      let q : view_refusal_of top w.book mem false ≡ none = view_is false ∙ (rw z at (valid-says top c.rules (extent_of mem) c.rules.max_orders v.status h e)) in
+      let q : view_refusal_of top w.book mem false ≡ None = view_is false ∙ (rw z at (valid-says top c.rules (extent_of mem) c.rules.max_orders v.status h e)) in
       rw (q, status_is)

@@ -1,11 +1,11 @@
 -- Each of the twelve counts is the number of calls so far that are counted there, up to 2^64−1.
 -- Assumes nothing.
+use Rattle.std.specs.Prelude.{Option, Some, None}
 use Prim.Native.Nat.{ℕ, ◌+◌, ◌≤◌}
 use native.Mathlib.Omega.{arith}
 use mathlib.Core.Bool.{Bool, true, false, not, ◌||◌, cond}
 use mathlib.Core.Path.{◌≡◌, refl, sym, ap, ◌∙◌}
 use mathlib.Core.List.{List, [], ◌∷◌}
-use mathlib.Core.Option.{Option, none, some}
 use borrow.Author.Tests.{ltb-true, ltb-false, le-ltb}
 use lib.Dec.{eqb, ltb}
 use lib.ListN.{length}
@@ -69,7 +69,7 @@ saturated_up x = go (ltb x largest) refl
         let l = ltb-false x largest p in
         rw (up-high x l, up-high (x + 1) (omega (arith, l)))
 
-raised_up : (k i : Counter) (x : ℕ) → raised_at (place_of k) (place_of i) (up_to x) ≡ up_to (x + hit i (some k))
+raised_up : (k i : Counter) (x : ℕ) → raised_at (place_of k) (place_of i) (up_to x) ≡ up_to (x + hit i (Some k))
 raised_up k i x = go (eqb (place_of k) (place_of i))
   where
     go : (b : Bool) → cond b (saturated (up_to x)) (up_to x) ≡ up_to (x + cond b 1 0)
@@ -94,16 +94,16 @@ counts_same f g h =
     )
 
 abbrev counted_by : Option Counter → MessageCounts → MessageCounts
-counted_by none k = k
-counted_by (some p) k = counted k p
+counted_by None k = k
+counted_by (Some p) k = counted k p
 
 counted_up : (a : Counter → ℕ) (o : Option Counter) (k : MessageCounts) → k ≡ counts_by (λ (i : Counter). up_to (a i)) → counted_by o k ≡ counts_by (λ (i : Counter). up_to (a i + hit i o))
-counted_up a none k e = e ∙ counts_same _ _ (λ i. let z : a i ≡ a i + 0 = omega arith in ap up_to z)
-counted_up a (some p) k e = ap (λ (z : MessageCounts). counted z p) e ∙ counts_same (λ (i : Counter). raised_at (place_of p) (place_of i) (up_to (a i))) (λ (i : Counter). up_to (a i + hit i (some p))) (λ i. raised_up p i (a i))
+counted_up a None k e = e ∙ counts_same _ _ (λ i. let z : a i ≡ a i + 0 = omega arith in ap up_to z)
+counted_up a (Some p) k e = ap (λ (z : MessageCounts). counted z p) e ∙ counts_same (λ (i : Counter). raised_at (place_of p) (place_of i) (up_to (a i))) (λ (i : Counter). up_to (a i + hit i (Some p))) (λ i. raised_up p i (a i))
 
 -- ---- a call by value, lent enough
 
-refused-counted : (b : BookReconstructor) (mem : Memory) (g : Segment) (m : L3Message) (a : ApplyAnswer) → (after_gate b mem g m (some a)).book.counts ≡ counted_by (answer_place a) b.counts
+refused-counted : (b : BookReconstructor) (mem : Memory) (g : Segment) (m : L3Message) (a : ApplyAnswer) → (after_gate b mem g m (Some a)).book.counts ≡ counted_by (answer_place a) b.counts
 unfolding after_gate refused_reply
 refused-counted b mem g m (answers.Applied a) = refl
 refused-counted b mem g m (answers.Unusable e) = refl
@@ -114,17 +114,17 @@ refused-counted b mem g m (answers.Invalidated i) = refl
 refused-counted b mem g m (answers.AwaitingSnapshot i) = refl
 
 decided-counted : (b : BookReconstructor) (mem : Memory) (m : L3Message) (t : Option InvalidationKind)
-    → (decided b mem (last_of b.status) m t).book.counts ≡ counted_by (message_place b.rules (line_in mem b.rows) m.event none t) b.counts
+    → (decided b mem (last_of b.status) m t).book.counts ≡ counted_by (message_place b.rules (line_in mem b.rows) m.event None t) b.counts
 unfolding decided invalidated_reply accepted_core accepted_reply event_deed
-decided-counted b mem m (some k) = refl
-decided-counted b mem m none = refl
+decided-counted b mem m (Some k) = refl
+decided-counted b mem m None = refl
 
 answered-counted : (b : BookReconstructor) (mem : Memory) (g : Segment) (m : L3Message) (o : Option ApplyAnswer)
     → (after_gate b mem g m o).book.counts
     ≡ counted_by (message_place b.rules (line_in mem b.rows) m.event o (turn_refusal b.rules (line_in mem b.rows) (last_of b.status) m)) b.counts
 unfolding after_gate
-answered-counted b mem g m (some a) = refused-counted b mem g m a
-answered-counted b mem g m none = decided-counted b mem m (turn_refusal b.rules (line_in mem b.rows) (last_of b.status) m)
+answered-counted b mem g m (Some a) = refused-counted b mem g m a
+answered-counted b mem g m None = decided-counted b mem m (turn_refusal b.rules (line_in mem b.rows) (last_of b.status) m)
 
 module _ (top : ℕ) (b : BookReconstructor) (mem : Memory) (sg : List Segment) (s : ℕ) (u : Usable top b mem (length sg)) (st : Starts s b sg) where
   gate_same : (m : L3Message) → gate_refusal top b.product_id b.rules (lengths_of mem sg) false (seen s b mem) m ≡ book_gate top b mem (length sg) (last_segment sg b.segments) m
@@ -139,16 +139,16 @@ module _ (top : ℕ) (b : BookReconstructor) (mem : Memory) (sg : List Segment) 
     abbrev place : Option Counter
     place = place_in top (config_of b) (seen s b mem) (step (lengths_of mem sg) h m)
 
-    other_place : other_segment h (segment_of b) b.segments ≡ true → place ≡ none
+    other_place : other_segment h (segment_of b) b.segments ≡ true → place ≡ None
     unfolding place_in step_refusal
     other_place p = rw (first_on _ _ _ _ (own-none top b mem sg u) (fails _ _ _ p))
 
-    range-place : other_segment h (segment_of b) b.segments ≡ false → not (event_in_range m.event) ≡ true → place ≡ none
+    range-place : other_segment h (segment_of b) b.segments ≡ false → not (event_in_range m.event) ≡ true → place ≡ None
     unfolding place_in step_refusal
     range-place p q = rw (first_on _ _ _ _ (own-none top b mem sg u) (goes_on _ _ _ _ p (fails _ _ _ q)))
 
     through-place : other_segment h (segment_of b) b.segments ≡ false → not (event_in_range m.event) ≡ false
-        → place ≡ cond (drops b.product_id s m) (some counters.HandshakeDropped) (apply_place top (config_of b) (seen s b mem) (lengths_of mem sg) m)
+        → place ≡ cond (drops b.product_id s m) (Some counters.HandshakeDropped) (apply_place top (config_of b) (seen s b mem) (lengths_of mem sg) m)
     unfolding place_in step_refusal
     through-place p q = rw (first_on _ _ _ _ (own-none top b mem sg u) (goes_on _ _ _ _ p (goes_on _ _ _ _ q refl)))
 
@@ -172,7 +172,7 @@ module _ (top : ℕ) (b : BookReconstructor) (mem : Memory) (sg : List Segment) 
         go₁ false p = go₂ p (not (event_in_range m.event)) refl
 
   module _ (bytes : List ℕ) where
-    rejected-counted : (x : SnapshotAnswer) → (boot.refused_book x b).counts ≡ counted_by (snapshot_place (some x)) b.counts
+    rejected-counted : (x : SnapshotAnswer) → (boot.refused_book x b).counts ≡ counted_by (snapshot_place (Some x)) b.counts
     rejected-counted snapshots.Bootstrapped = refl
     rejected-counted (snapshots.Unusable e) = refl
     rejected-counted snapshots.NotAPiece = refl
@@ -185,21 +185,21 @@ module _ (top : ℕ) (b : BookReconstructor) (mem : Memory) (sg : List Segment) 
     boot-counted = rw (boot-same top b mem sg s u st bytes) (go (refusal_of top b mem sg bytes) refl)
       where
         go : (o : Option SnapshotAnswer) → refusal_of top b mem sg bytes ≡ o → (bootstrapped top b mem sg bytes).book.counts ≡ counted_by (snapshot_place o) b.counts
-        go (some x) q = ap (λ (p : boot.Parts). p.book.counts) (refused_is top b mem sg bytes x q) ∙ rejected-counted x
-        go none q = ap (λ (p : boot.Parts). p.book.counts) (is-accepted top b mem sg bytes q).is
+        go (Some x) q = ap (λ (p : boot.Parts). p.book.counts) (refused_is top b mem sg bytes x q) ∙ rejected-counted x
+        go None q = ap (λ (p : boot.Parts). p.book.counts) (is-accepted top b mem sg bytes q).is
 
 -- ---- lent too little: not counted
 
 module _ (top : ℕ) (c : Config) (n : Lengths) (v : View) (q : (over_ceiling top c.rules || too_short c.rules n v.segments) ≡ true) where
-  early-apply-place : (m : L3Message) → place_in top c v (apply n m) ≡ none
+  early-apply-place : (m : L3Message) → place_in top c v (apply n m) ≡ None
   unfolding place_in apply_place gate_refusal
   early-apply-place m = let e = early top c.rules n false v.segments q in rw (first-fails _ _ _ _ e.1)
 
-  early-step-place : (h : Handshake) (m : L3Message) → place_in top c v (step n h m) ≡ none
+  early-step-place : (h : Handshake) (m : L3Message) → place_in top c v (step n h m) ≡ None
   unfolding place_in step_refusal
   early-step-place h m = let e = early top c.rules n false v.segments q in rw (first-fails _ _ _ _ e.1)
 
-  early_boot-place : (bytes : List ℕ) → place_in top c v (bootstrap n bytes) ≡ none
+  early_boot-place : (bytes : List ℕ) → place_in top c v (bootstrap n bytes) ≡ None
   unfolding place_in boot_refusal
   early_boot-place bytes = let e = early top c.rules n false v.segments q in rw (first-fails _ _ _ _ e.1)
 

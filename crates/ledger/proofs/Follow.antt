@@ -1,11 +1,11 @@
 -- The world follows the ledger's view: after each call the state with its memory stands for it. Number 3 never arises.
 -- Assumes nothing.
+use Rattle.std.specs.Prelude.{Option, Some, None}
 use Prim.Native.Nat.{ℕ, ◌+◌, ◌≤◌}
 use native.Mathlib.Omega.{arith}
 use mathlib.Core.Bool.{Bool, true, false, ◌||◌}
 use mathlib.Core.Path.{◌≡◌, refl, sym, ap, ap₂, subst, ◌∙◌}
 use mathlib.Core.List.{List, [], ◌∷◌, ◌++◌}
-use mathlib.Core.Option.{Option, none, some}
 use borrow.Author.Tests.{ltb-false, le-ltb}
 use lib.Dec.{ltb}
 use lib.ListN.{length, take, drop, length-append, take-append-drop}
@@ -55,20 +55,20 @@ pub record Follows (c : Config) (r : Extent) (s : ℕ) (w : World) (v : View) : 
   pub wide : extent_of w.memory ≡ r
   pub long : length w.segments ≡ s
 
-some_same : (a b : StateError) → ◌≡◌ {A = Option StateError} (some a) (some b) → a ≡ b
+some_same : (a b : StateError) → ◌≡◌ {A = Option StateError} (Some a) (Some b) → a ≡ b
 some_same a b h = cc
 
-some-none : (a : StateError) → ◌≡◌ {A = Option StateError} (some a) none → ⊥
+some-none : (a : StateError) → ◌≡◌ {A = Option StateError} (Some a) None → ⊥
 some-none a h = let z : ◌≡◌ {A = ℕ} 0 1 = cc in omega (arith, z)
 
 -- ---- number 1 or 2 is said of the rules, the lengths and the number of segments alone
 
 pub early : (top : ℕ) (v : VenueRules) (n : Lengths) (three : Bool) (k : ℕ) → (over_ceiling top v || too_short v n k) ≡ true
-    → (e : StateError) × (state_refusal top v n three k ≡ some e) × (e ≡ MalformedBook → ⊥)
+    → (e : StateError) × (state_refusal top v n three k ≡ Some e) × (e ≡ MalformedBook → ⊥)
 unfolding state_refusal
 early top v n three k h = go (over_ceiling top v) refl h
   where
-    go : (b : Bool) → over_ceiling top v ≡ b → (b || too_short v n k) ≡ true → (e : StateError) × (state_refusal top v n three k ≡ some e) × (e ≡ MalformedBook → ⊥)
+    go : (b : Bool) → over_ceiling top v ≡ b → (b || too_short v n k) ≡ true → (e : StateError) × (state_refusal top v n three k ≡ Some e) × (e ≡ MalformedBook → ⊥)
     go true p q = (LimitAboveCeiling, fails _ _ _ p, λ x. let z : ◌≡◌ {A = ℕ} 0 1 = cc in omega (arith, z))
     go false p q = (LentTooShort, goes_on _ _ _ _ p (fails _ _ _ q), λ x. let z : ◌≡◌ {A = ℕ} 0 1 = cc in omega (arith, z))
 
@@ -85,7 +85,7 @@ pub early_boot : (top : ℕ) (c : Config) (n : Lengths) (w : View) (bytes : List
 unfolding boot_refusal
 early_boot top c n w bytes h = let e = early top c.rules n false w.segments h in rw (first-fails _ _ _ _ e.1)
 
-pub early-refusal : (top : ℕ) (b : BookReconstructor) (mem : Memory) (sg : List Segment) (bytes : List ℕ) (e : StateError) → book_refusal top b mem (length sg) ≡ some e → refusal_of top b mem sg bytes ≡ some (snapshots.Unusable e)
+pub early-refusal : (top : ℕ) (b : BookReconstructor) (mem : Memory) (sg : List Segment) (bytes : List ℕ) (e : StateError) → book_refusal top b mem (length sg) ≡ Some e → refusal_of top b mem sg bytes ≡ Some (snapshots.Unusable e)
 unfolding boot_refusal
 early-refusal top b mem sg bytes e h = first-fails _ _ _ _ h
 
@@ -179,7 +179,7 @@ module _ (top : ℕ) (c : Config) (r : Extent) (s : ℕ) (w : World) (v : View) 
 
   -- lent too little: 1 or 2, and nothing moves
   pub early_own : (over_ceiling top c.rules || too_short c.rules n v.segments) ≡ true
-      → (e : StateError) × (book_refusal top w.book mem (length sg) ≡ some e) × (e ≡ MalformedBook → ⊥)
+      → (e : StateError) × (book_refusal top w.book mem (length sg) ≡ Some e) × (e ≡ MalformedBook → ⊥)
   early_own h =
       let e : w.book.rules ≡ c.rules = ap (λ (x : Config). x.rules) f.stands.config in
       let g : w.book.segments ≡ v.segments = ap (λ (x : View). x.segments) f.stands.view in
@@ -194,7 +194,7 @@ module _ (top : ℕ) (c : Config) (r : Extent) (s : ℕ) (w : World) (v : View) 
       (l.1, l.2, l.3)
 
   -- "3 never arises here"
-  pub never-three : book_refusal top w.book mem (length sg) ≡ some MalformedBook → ⊥
+  pub never-three : book_refusal top w.book mem (length sg) ≡ Some MalformedBook → ⊥
   never-three x = go (over_ceiling top c.rules || too_short c.rules n v.segments) refl
     where
       go : (b : Bool) → (over_ceiling top c.rules || too_short c.rules n v.segments) ≡ b → ⊥

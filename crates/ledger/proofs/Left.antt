@@ -1,11 +1,11 @@
 -- What a call that is lent enough leaves of its lent memory: as much of it, with room for the rows and records in use.
 -- Assumes nothing.
+use Rattle.std.specs.Prelude.{Option, Some, None}
 use Prim.Native.Nat.{ℕ, ◌*◌, ◌≤◌}
 use native.Mathlib.Omega.{arith}
 use mathlib.Core.Bool.{Bool, true, false, not}
 use mathlib.Core.Path.{◌≡◌, refl, ap, ◌∙◌}
 use mathlib.Core.List.{List, map}
-use mathlib.Core.Option.{Option, none, some}
 use lib.ListN.{length, length-map, length-set}
 use Rattle.message.specs.declared.L3Message.{L3Message}
 use Rattle.message.specs.Values.{event_in_range}
@@ -53,21 +53,21 @@ module _ (top : ℕ) (b : BookReconstructor) (mem : Memory) (sg : List Segment) 
   rows-size : (t : Option InvalidationKind) → (decided b mem (last_of b.status) m t).book.rows ≤ b.rules.max_orders
       → length (decided b mem (last_of b.status) m t).memory.rows ≡ length mem.rows
   unfolding decided accepted_core accepted_reply invalidated_reply event_deed
-  rows-size (some k) h = refl
-  rows-size none h =
+  rows-size (Some k) h = refl
+  rows-size None h =
       length-stored mem.rows b.rows (orders_by (effect b.rules (line_in mem b.rows) m.sequence m.event) (orders_of mem b.rows))
       (omega (arith, (sound b mem u.sound).few, rows-lent b mem (length sg) u.lent))
       (omega (arith, h, rows-lent b mem (length sg) u.lent))
 
   same-rules : (t : Option InvalidationKind) → (decided b mem (last_of b.status) m t).book.rules ≡ b.rules
   unfolding decided accepted_core accepted_reply invalidated_reply
-  same-rules (some k) = refl
-  same-rules none = refl
+  same-rules (Some k) = refl
+  same-rules None = refl
 
   sizes : (g : Segment) (o : Option ApplyAnswer) → broken (after_gate b mem g m o).book (after_gate b mem g m o).memory ≡ false → length (after_gate b mem g m o).memory.rows ≡ length mem.rows
   unfolding after_gate refused_reply
-  sizes g (some a) h = refl
-  sizes g none h =
+  sizes g (Some a) h = refl
+  sizes g None h =
       let t : Option InvalidationKind = turn_refusal b.rules (line_in mem b.rows) (last_of b.status) m in
       let e : (decided b mem (last_of b.status) m t).book.rules ≡ b.rules = same-rules t in
       rows-size t (rw e at (sound (decided b mem (last_of b.status) m t).book (decided b mem (last_of b.status) m t).memory h).few)
@@ -112,7 +112,7 @@ module _ (top : ℕ) (b : BookReconstructor) (mem : Memory) (sg : List Segment) 
   abbrev BootLeft : SnapshotParts → Type 0
   BootLeft p = Left mem sg p.book p.memory p.segments
 
-  accepted-left : refusal_of top b mem sg bytes ≡ none → BootLeft (bootstrapped top b mem sg bytes)
+  accepted-left : refusal_of top b mem sg bytes ≡ None → BootLeft (bootstrapped top b mem sg bytes)
   accepted-left q =
       let a = is-accepted top b mem sg bytes q in
       let t = a.snapshot.sequence in
@@ -128,8 +128,8 @@ module _ (top : ℕ) (b : BookReconstructor) (mem : Memory) (sg : List Segment) 
   boot-left = go (refusal_of top b mem sg bytes) refl
     where
       go : (o : Option SnapshotAnswer) → refusal_of top b mem sg bytes ≡ o → BootLeft (bootstrapped top b mem sg bytes)
-      go (some x) q =
+      go (Some x) q =
           let e : refused_book x b ≡ with_counts b (refused_book x b).counts = counts_alone x b in
           rw (refused_is top b mem sg bytes x q)
           (left-same top b (refused_book x b) mem sg u (ap (λ (k : BookReconstructor). k.rows) e) (ap (λ (k : BookReconstructor). k.segments) e))
-      go none q = accepted-left q
+      go None q = accepted-left q

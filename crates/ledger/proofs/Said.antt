@@ -1,11 +1,11 @@
 -- What a read of a book in the host's memory says of its line.
 -- Assumes nothing.
+use Rattle.std.specs.Prelude.{Option, Some, None}
 use Prim.Native.Nat.{ℕ, ◌*◌}
 use native.Mathlib.Omega.{arith}
 use mathlib.Core.Bool.{Bool, true, false, cond}
 use mathlib.Core.Path.{◌≡◌, refl, sym, ap, ◌∙◌}
 use mathlib.Core.List.{List}
-use mathlib.Core.Option.{Option, none, some}
 use lib.Dec.{ltb}
 use lib.IntN.{ℤ}
 use lib.ListN.{length, take, drop, take-append-drop}
@@ -66,18 +66,18 @@ module _ (top : ℕ) (b : BookReconstructor) (mem : Memory) (n : Extent) (short 
       ∙ rows-front (take n.rows mem.rows) (drop n.rows mem.rows) b.rows (omega (arith, f, l)))
 
 level-shown : (o : Option ViewError) (w : Shows) (sc out : List ℕ) (x : Shown) → (level_read o w sc out).answer ≡ levels.Shown x
-    → (o ≡ none) × (w.answer ≡ x) × ((level_read o w sc out).out ≡ w.out)
+    → (o ≡ None) × (w.answer ≡ x) × ((level_read o w sc out).out ≡ w.out)
 unfolding level_read
-level-shown (some e) w sc out x h = let z : ◌≡◌ {A = ℕ} 0 1 = cc in absurd (omega arith)
-level-shown none w sc out x h = (refl, cc, refl)
+level-shown (Some e) w sc out x h = let z : ◌≡◌ {A = ℕ} 0 1 = cc in absurd (omega arith)
+level-shown None w sc out x h = (refl, cc, refl)
 
 stale-shown : (o : Option StateError) (s : Status) (w : Shows) (sc out : List ℕ) (k : ℕ) → (stale_read o s w sc out).answer ≡ stales.Shown (Entries k)
-    → (o ≡ none) × (w.answer ≡ Entries k) × ((stale_read o s w sc out).out ≡ w.out)
+    → (o ≡ None) × (w.answer ≡ Entries k) × ((stale_read o s w sc out).out ≡ w.out)
 unfolding stale_read
-stale-shown (some e) s w sc out k h = let z : ◌≡◌ {A = ℕ} 0 1 = cc in absurd (omega arith)
-stale-shown none statuses.Empty w sc out k h = let z : ◌≡◌ {A = ℕ} 0 1 = cc in absurd (omega arith)
-stale-shown none (statuses.Valid last) w sc out k h = let z : ◌≡◌ {A = ℕ} 0 1 = cc in absurd (omega arith)
-stale-shown none (statuses.Invalidated i) w sc out k h = (refl, cc, refl)
+stale-shown (Some e) s w sc out k h = let z : ◌≡◌ {A = ℕ} 0 1 = cc in absurd (omega arith)
+stale-shown None statuses.Empty w sc out k h = let z : ◌≡◌ {A = ℕ} 0 1 = cc in absurd (omega arith)
+stale-shown None (statuses.Valid last) w sc out k h = let z : ◌≡◌ {A = ℕ} 0 1 = cc in absurd (omega arith)
+stale-shown None (statuses.Invalidated i) w sc out k h = (refl, cc, refl)
 
 module _ (top : ℕ) (b : BookReconstructor) (mem : Memory) (n : Extent) (sc : List ℕ) (s : L3Side) (out : List ℕ) (k : ℕ) where
   abbrev os : List Resting

@@ -1,16 +1,14 @@
 -- Once invalidated, nothing counts and nothing rests anew: the line is what it was before the invalidating message.
 -- Assumes nothing.
+use Rattle.std.specs.Prelude.{Option, Some, None, Result, Ok, Err}
 use Prim.Native.Nat.{ℕ, zero, suc}
 use native.Mathlib.Omega.{arith}
 use mathlib.Core.Bool.{Bool, true, false}
 use mathlib.Core.Path.{◌≡◌, refl, sym, ap, ◌∙◌}
 use mathlib.Core.Logic.{◌⊎◌, inl, inr}
 use mathlib.Core.List.{List, [], ◌∷◌, ◌++◌, append_assoc, append-nil}
-use mathlib.Core.Option.{Option, none, some}
 use lib.ListN.{take}
 use Rattle.message.specs.declared.L3Message.{L3Message}
-use Rattle.piece.specs.declared.ReadSnapshot.{ReadSnapshot}
-use Rattle.piece.specs.declared.ReadSnapshot.TheVariants as pieces
 use Rattle.piece.specs.Piece.{read_snapshot}
 use Rattle.reconstructor_answers.specs.declared.ApplyAnswer.{ApplyAnswer}
 use Rattle.reconstructor_answers.specs.declared.InvalidationKind.{InvalidationKind}
@@ -28,6 +26,8 @@ use Rattle.ledger.specs.Kept.{kept_by, kept_boot, kept_after, kept_all, kept}
 use Rattle.ledger.specs.Sum.{valid, invalid, standing_of}
 use Rattle.ledger.proofs.Follow.{view_all}
 use Rattle.ledger.proofs.Replay.{view_append, admit-status}
+use Rattle.message.specs.declared.L3Snapshot.{L3Snapshot}
+use Rattle.piece.specs.declared.PieceError.{PieceError}
 
 -- an outcome that changes the view
 abbrev touches : Outcome → Type 0
@@ -36,24 +36,24 @@ touches (invalidates k) = Unit {0}
 touches dropped = ⊥
 touches accepted = Unit {0}
 
-touched : (g : Option ApplyAnswer) (t : Option InvalidationKind) → touches (outcome_of g t) → g ≡ none
+touched : (g : Option ApplyAnswer) (t : Option InvalidationKind) → touches (outcome_of g t) → g ≡ None
 unfolding outcome_of
-touched (some a) t h = absurd h
-touched none t h = refl
+touched (Some a) t h = absurd h
+touched None t h = refl
 
 through : (g : Option StepAnswer) (d : Bool) (o : Outcome) → touches (step_outcome_of g d o) → touches o
 unfolding step_outcome_of
-through (some a) d o h = absurd h
-through none true o h = absurd h
-through none false o h = h
+through (Some a) d o h = absurd h
+through None true o h = absurd h
+through None false o h = h
 
-is-valid : (s : Status) → status_refusal s ≡ none → standing_of s ≡ valid
+is-valid : (s : Status) → status_refusal s ≡ None → standing_of s ≡ valid
 is-valid statuses.Empty h = let z : ◌≡◌ {A = ℕ} 0 1 = cc in absurd (omega arith)
 is-valid (statuses.Valid last) h = refl
 is-valid (statuses.Invalidated i) h = let z : ◌≡◌ {A = ℕ} 0 1 = cc in absurd (omega arith)
 
 module _ (top : ℕ) (c : Config) (n : Lengths) (v : View) where
-  gate-valid : (m : L3Message) → gate_refusal top c.product c.rules n false v m ≡ none → standing_of v.status ≡ valid
+  gate-valid : (m : L3Message) → gate_refusal top c.product c.rules n false v m ≡ None → standing_of v.status ≡ valid
   unfolding gate_refusal
   gate-valid m h = is-valid v.status (admit-status c.product v.status m (first-passed _ _ _ h).1)
 
@@ -78,11 +78,11 @@ by-frozen r m v ks k (invalidates i) h q = record { was = inr (h tt); kept = ref
 by-frozen r m v ks k dropped h q = record { was = inl q; kept = refl; line = refl }
 by-frozen r m v ks k accepted h q = let z : ◌≡◌ {A = ℕ} 0 1 = cc in absurd (omega arith)
 
-boot-frozen : (v : View) (ks : List Call) (k : Call) (bytes : List ℕ) (s : ReadSnapshot) (o : Option SnapshotAnswer)
+boot-frozen : (v : View) (ks : List Call) (k : Call) (bytes : List ℕ) (s : Result L3Snapshot PieceError) (o : Option SnapshotAnswer)
     → standing_of (view_boot o s bytes v).status ≡ invalid → Frozen v (view_boot o s bytes v) ks (kept_boot o s ks k)
-boot-frozen v ks k bytes s (some a) q = record { was = inl q; kept = refl; line = refl }
-boot-frozen v ks k bytes (pieces.Refused e) none q = record { was = inl q; kept = refl; line = refl }
-boot-frozen v ks k bytes (pieces.Snapshot s) none q = let z : ◌≡◌ {A = ℕ} 0 1 = cc in absurd (omega arith)
+boot-frozen v ks k bytes s (Some a) q = record { was = inl q; kept = refl; line = refl }
+boot-frozen v ks k bytes (Err e) None q = record { was = inl q; kept = refl; line = refl }
+boot-frozen v ks k bytes (Ok s) None q = let z : ◌≡◌ {A = ℕ} 0 1 = cc in absurd (omega arith)
 
 frozen : (top : ℕ) (c : Config) (v : View) (ks : List Call) (k : Call) → standing_of (feed_view top c v k).status ≡ invalid → Frozen v (feed_view top c v k) ks (kept_after top c v ks k)
 unfolding feed_view kept_after

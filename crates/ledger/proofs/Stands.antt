@@ -1,11 +1,11 @@
 -- What a state with its lent memory stands for in the ledger's view, and that each call keeps it.
 -- Assumes nothing.
+use Rattle.std.specs.Prelude.{Option, Some, None, Result, Ok, Err}
 use Prim.Native.Nat.{ℕ, zero, suc, ◌+◌, ◌*◌, ◌≤◌, ◌<◌}
 use native.Mathlib.Omega.{arith}
 use mathlib.Core.Bool.{Bool, true, false, not, ◌||◌, cond}
 use mathlib.Core.Path.{◌≡◌, refl, sym, ap, subst, ◌∙◌}
 use mathlib.Core.List.{List, [], ◌∷◌, ◌++◌, map}
-use mathlib.Core.Option.{Option, none, some}
 use borrow.Author.Tests.{eqb-false}
 use lib.Dec.{eqb}
 use native.Mathlib.Numerals.{add-one}
@@ -38,8 +38,6 @@ use Rattle.reconstructor.proofs.Kept.{refusal-counts, usable-kept, accepted-line
 use Rattle.reconstructor.proofs.Laws.{gate-trusted}
 use Rattle.message.specs.declared.L3Snapshot.{L3Snapshot}
 use Rattle.message.specs.Values.{event_in_range}
-use Rattle.piece.specs.declared.ReadSnapshot.{ReadSnapshot}
-use Rattle.piece.specs.declared.ReadSnapshot.TheVariants as pieces
 use Rattle.piece.specs.Piece.{read_snapshot}
 use Rattle.reconstructor_counts.specs.declared.MessageCounts.{MessageCounts}
 use Rattle.reconstructor_state.specs.State.{segment_of}
@@ -52,6 +50,7 @@ use Rattle.reconstructor_handshake.specs.Step.{StepParts, other_segment, step_re
 use Rattle.reconstructor_handshake_rules.specs.Drops.{drops}
 use Rattle.reconstructor_handshake.proofs.Step.{other_step, out_of_range-step, dropped_step, decided-step}
 use Rattle.ledger.specs.Ledger.{Config, Outcome, refused, invalidates, dropped, accepted, outcome_of, apply_outcome, step_outcome_of, step_outcome, boot_outcome, view_by, view_boot, snap_view}
+use Rattle.piece.specs.declared.PieceError.{PieceError}
 
 -- what a state shows, and how much it is lent, with a list of records
 abbrev view_of : BookReconstructor → Memory → List Segment → View
@@ -114,7 +113,7 @@ relast-start : (sg : List Segment) (n : ℕ) (g : Segment) → g.start_seq ≡ (
 relast-start sg zero g h = refl
 relast-start sg (suc n) g h = start_set sg n g h
 
-pub own-none : (top : ℕ) (b : BookReconstructor) (mem : Memory) (sg : List Segment) → Usable top b mem (length sg) → state_refusal top b.rules (lengths_of mem sg) false b.segments ≡ none
+pub own-none : (top : ℕ) (b : BookReconstructor) (mem : Memory) (sg : List Segment) → Usable top b mem (length sg) → state_refusal top b.rules (lengths_of mem sg) false b.segments ≡ None
 unfolding state_refusal
 own-none top b mem sg u = goes_on _ _ _ _ u.within (goes_on _ _ _ _ u.lent (goes_on _ _ _ _ refl refl))
 
@@ -147,7 +146,7 @@ module _ (top : ℕ) (b : BookReconstructor) (mem : Memory) (sg : List Segment) 
       × (seen s (after_gate b mem last m o).book (after_gate b mem last m o).memory ≡ view_by b.rules m (outcome_of o t) (seen s b mem))
       × Starts s (after_gate b mem last m o).book (relast sg b.segments (after_gate b mem last m o).segment)
 
-  refused-facts : (a : ApplyAnswer) (t : Option InvalidationKind) → Facts (some a) t
+  refused-facts : (a : ApplyAnswer) (t : Option InvalidationKind) → Facts (Some a) t
   unfolding after_gate refused_reply outcome_of
   refused-facts a t =
       let e : refused_book b a ≡ with_counts b (refused_book b a).counts = refusal-counts b a in (
@@ -159,7 +158,7 @@ module _ (top : ℕ) (b : BookReconstructor) (mem : Memory) (sg : List Segment) 
   abbrev Turns : Option InvalidationKind → Type 0
   Turns t =
       (config_of (decided b mem (last_of b.status) m t).book ≡ config_of b)
-      × (seen s (decided b mem (last_of b.status) m t).book (decided b mem (last_of b.status) m t).memory ≡ view_by b.rules m (outcome_of none t) (seen s b mem))
+      × (seen s (decided b mem (last_of b.status) m t).book (decided b mem (last_of b.status) m t).memory ≡ view_by b.rules m (outcome_of None t) (seen s b mem))
       × Starts s (decided b mem (last_of b.status) m t).book (relast sg b.segments (next_segment last (decided b mem (last_of b.status) m t).answer m.sequence m.time_us))
 
   turn-start : (a : ApplyAnswer) → 0 < b.segments → (last_segment (relast sg b.segments (next_segment last a m.sequence m.time_us)) b.segments).start_seq ≡ s
@@ -167,17 +166,17 @@ module _ (top : ℕ) (b : BookReconstructor) (mem : Memory) (sg : List Segment) 
 
   turn_facts : (t : Option InvalidationKind) → turn_refusal b.rules (line_in mem b.rows) (last_of b.status) m ≡ t → Turns t
   unfolding decided outcome_of invalidated_reply accepted_core accepted_reply
-  turn_facts (some k) q = (refl, refl, turn-start (decided b mem (last_of b.status) m (some k)).answer)
-  turn_facts none q = (
+  turn_facts (Some k) q = (refl, refl, turn-start (decided b mem (last_of b.status) m (Some k)).answer)
+  turn_facts None q = (
     refl,
     ap (λ (l : List Entry). record { status = Valid m.sequence; start_seq = s; segments = b.segments; line = l }) (rw q at (accepted-line b mem (last_of b.status) m q)),
-    turn-start (decided b mem (last_of b.status) m none).answer,
+    turn-start (decided b mem (last_of b.status) m None).answer,
   )
 
   gate-facts : (o : Option ApplyAnswer) → Facts o (turn_refusal b.rules (line_in mem b.rows) (last_of b.status) m)
   unfolding after_gate
-  gate-facts (some a) = refused-facts a _
-  gate-facts none = turn_facts (turn_refusal b.rules (line_in mem b.rows) (last_of b.status) m) refl
+  gate-facts (Some a) = refused-facts a _
+  gate-facts None = turn_facts (turn_refusal b.rules (line_in mem b.rows) (last_of b.status) m) refl
 
   pub apply-stands : Stands (config_of b) (applied top b mem sg m).book (applied top b mem sg m).memory (applied top b mem sg m).segments
       (view_by b.rules m (apply_outcome top (config_of b) (lengths_of mem sg) false (seen s b mem) m) (seen s b mem))
@@ -251,16 +250,16 @@ module _ (top : ℕ) (b : BookReconstructor) (mem : Memory) (sg : List Segment) 
   unfolding boot_refusal
   boot-same = first_on _ _ _ _ (own-none top b mem sg u) refl ∙ sym (first_on _ _ _ _ (usable-none top b mem (length sg) u) (piece-same (read_snapshot bytes)))
     where
-      piece-same : (r : ReadSnapshot)
+      piece-same : (r : Result L3Snapshot PieceError)
           → piece_refusal b.product_id b.rules (lengths_of mem sg) (view_of b mem sg) r bytes ≡ piece_refusal b.product_id b.rules (lengths_of mem sg) (seen s b mem) r bytes
-      piece-same (pieces.Refused e) = refl
-      piece-same (pieces.Snapshot x) = accept-same b mem sg s x bytes
+      piece-same (Err e) = refl
+      piece-same (Ok x) = accept-same b mem sg s x bytes
 
   counted-stands : (x : SnapshotAnswer) → Stands (config_of b) (refused_boot x b) mem sg (seen s b mem)
   unfolding broken
   counted-stands x = rw (counts_alone x b) (record { config = refl; view = refl; start = st; sound = u.sound })
 
-  module _ (q : refusal_of top b mem sg bytes ≡ none) where
+  module _ (q : refusal_of top b mem sg bytes ≡ None) where
     module _ (x : L3Snapshot) (is : bootstrapped top b mem sg bytes ≡ accepted_parts b mem sg x.sequence (snapshot_line x bytes)) where
       abbrev line : List Entry
       line = snapshot_line x bytes
@@ -292,12 +291,12 @@ module _ (top : ℕ) (b : BookReconstructor) (mem : Memory) (sg : List Segment) 
             sound = subst (λ (p : SnapshotParts). broken p.book p.memory ≡ false) is (accepted-usable top b mem sg bytes q).sound;
           }
 
-    taken-stands : BootStands none (bootstrapped top b mem sg bytes)
+    taken-stands : BootStands None (bootstrapped top b mem sg bytes)
     taken-stands = let a = is-accepted top b mem sg bytes q in rw (a.is, a.read) (left-stands a.snapshot a.is)
 
   pub boot-stands : BootStands (boot_outcome top (config_of b) (lengths_of mem sg) (seen s b mem) bytes) (bootstrapped top b mem sg bytes)
   boot-stands = rw boot-same (go (refusal_of top b mem sg bytes) refl)
     where
       go : (o : Option SnapshotAnswer) → refusal_of top b mem sg bytes ≡ o → BootStands o (bootstrapped top b mem sg bytes)
-      go (some x) q = rw (refused_is top b mem sg bytes x q) (counted-stands x)
-      go none q = taken-stands q
+      go (Some x) q = rw (refused_is top b mem sg bytes x q) (counted-stands x)
+      go None q = taken-stands q

@@ -1,5 +1,6 @@
 -- The sums on the way in a snapshot: of the first orders of any that reads and has at most 4,096 orders, accepted or refused later.
 -- Assumes nothing.
+use Rattle.std.specs.Prelude.{Ok}
 use Prim.Native.Nat.{ℕ, zero, suc, ◌+◌, ◌*◌, ◌≤◌}
 use native.Mathlib.Omega.{arith}
 use mathlib.Core.Bool.{Bool, true, false, ◌&&◌, cond}
@@ -11,7 +12,6 @@ use Rattle.message.specs.declared.L3Side.{L3Side}
 use Rattle.message.specs.declared.L3Snapshot.{L3Snapshot}
 use Rattle.message.specs.Values.{amount_limit, in_range, order_in_range, orders_in_range}
 use Rattle.message.proofs.Amounts.{in_range_most}
-use Rattle.piece.specs.declared.ReadSnapshot.TheVariants.{Snapshot}
 use Rattle.piece.specs.Piece.{order_at, orders_from, read_snapshot}
 use Rattle.book.specs.Line.{Entry, same_level, volume}
 use Rattle.book.specs.Rows.{most_rows}
@@ -44,7 +44,7 @@ entries-small bids bytes i (suc k) h =
     let b = and_yes (in_range (order_at bytes i).price) (in_range (order_at bytes i).size) a.0 in
     (in_range_most (order_at bytes i).size b.1, entries-small bids bytes (i + 1) k a.1)
 
-pub sums_on_the_way : (bytes : List ℕ) (x : L3Snapshot) → read_snapshot bytes ≡ Snapshot x → x.bids + x.asks ≤ most_rows → (n : ℕ) (s : L3Side) (p : ℕ)
+pub sums_on_the_way : (bytes : List ℕ) (x : L3Snapshot) → read_snapshot bytes ≡ Ok x → x.bids + x.asks ≤ most_rows → (n : ℕ) (s : L3Side) (p : ℕ)
     → volume s p (take n (snapshot_line x bytes)) ≤ 4096000000000000000
 sums_on_the_way bytes x h few n s p =
     let l : Small (snapshot_line x bytes) = subst Small (sym (line-places x bytes)) (entries-small x.bids bytes 0 (x.bids + x.asks) (read-ranged bytes x h)) in

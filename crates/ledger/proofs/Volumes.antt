@@ -1,26 +1,23 @@
 -- The figures of the ledger are the volumes of its line: what each event does to both.
 -- Assumes nothing.
+use Rattle.std.specs.Prelude.{Option, Some, None}
 use Prim.Native.Nat.{ℕ, ◌+◌, ◌-◌, ◌≤◌}
 use native.Mathlib.Omega.{arith}
 use native.Mathlib.Nat.{sub-zero}
 use mathlib.Core.Bool.{Bool, true, false, not, cond}
 use mathlib.Core.Path.{◌≡◌, refl, sym, ap, ◌∙◌}
 use mathlib.Core.List.{List, [], ◌∷◌, ◌++◌}
-use mathlib.Core.Option.{Option, none, some}
 use lib.Dec.{eqb}
 use lib.IntN.{ℤ, pos, negsuc}
 use borrow.Author.Tests.{eqb-true, ltb-false, not-false}
 use Rattle.laws.proofs.Bools.{or_no}
 use Rattle.message.specs.declared.L3Side.{L3Side}
 use Rattle.message.specs.declared.OrderId.{OrderId}
-use Rattle.message.specs.declared.OptionalAmount.{OptionalAmount}
-use Rattle.message.specs.declared.OptionalAmount.TheVariants.{Absent, Given}
 use Rattle.message.specs.declared.ChangeReason.{ChangeReason}
 use Rattle.message.specs.declared.L3Event.{L3Event}
 use Rattle.message.specs.declared.L3Event.TheVariants.{Received, Open, Done, Match, Change, Unsupported}
 use Rattle.message.specs.Same.{same_side, same_id}
 use Rattle.message.specs.Amounts.{nat_of, differs}
-use Rattle.book.specs.declared.Decrease.{Decrease}
 use Rattle.book.specs.Line.{Entry, same_level, volume, find, left, cut}
 use Rattle.book.specs.Memory.{keep, cut_to, line_by}
 use Rattle.book.proofs.Moves.{same-sides}
@@ -49,13 +46,13 @@ on-zero true x r v h = omega arith
 on-zero false x r v h = omega arith
 
 -- a cut takes off what the order loses
-volume_cut : (s : L3Side) (p : ℕ) (d : OrderId) (r : ℕ) (l : List Entry) (e : Entry) → find d l ≡ some e → r ≤ e.remaining
+volume_cut : (s : L3Side) (p : ℕ) (d : OrderId) (r : ℕ) (l : List Entry) (e : Entry) → find d l ≡ Some e → r ≤ e.remaining
     → volume s p (cut d r l) + on e.side e.price s p (e.remaining - r) ≡ volume s p l
 volume_cut s p d r [] e q h = let z : ◌≡◌ {A = ℕ} 0 1 = cc in absurd (omega arith)
 volume_cut s p d r (a ∷ l) e q h = go (same_id a.id d) q (volume_cut s p d r l e)
   where
-    go : (b : Bool) → cond b (some a) (find d l) ≡ some e
-        → (find d l ≡ some e → r ≤ e.remaining → volume s p (cut d r l) + on e.side e.price s p (e.remaining - r) ≡ volume s p l)
+    go : (b : Bool) → cond b (Some a) (find d l) ≡ Some e
+        → (find d l ≡ Some e → r ≤ e.remaining → volume s p (cut d r l) + on e.side e.price s p (e.remaining - r) ≡ volume s p l)
         → volume s p (cond b (cond (eqb r 0) l (left a r ∷ l)) (a ∷ cut d r l)) + on e.side e.price s p (e.remaining - r) ≡ volume s p (a ∷ l)
     go true q ih = let t : a ≡ e = cc in rw t (here (eqb r 0) refl)
       where
@@ -79,7 +76,7 @@ price_is (pos m) n h = same (eqb m n) refl h
     same false e h = cc
 price_is (negsuc m) n h = cc
 
-cut_tallies : (l : List Entry) (f : Figure) (d : OrderId) (r : ℕ) (e : Entry) → Tallies f l → find d l ≡ some e → r ≤ e.remaining
+cut_tallies : (l : List Entry) (f : Figure) (d : OrderId) (r : ℕ) (e : Entry) → Tallies f l → find d l ≡ Some e → r ≤ e.remaining
     → Tallies (less e.side e.price (e.remaining - r) f) (cut d r l)
 unfolding Tallies
 cut_tallies l f d r e t q h s p = omega (arith, t s p, volume_cut s p d r l e q h)
@@ -93,17 +90,17 @@ less-nothing l f s p x t z s' p' = go (same_level s p s' p')
     go false = omega (arith, t s' p')
 
 -- no more than what was left
-size_most : (left : ℕ) (x funds : OptionalAmount) → size_refusal left x funds ≡ none → size_given x ≤ left
+size_most : (left : ℕ) (x funds : Option ℤ) → size_refusal left x funds ≡ None → size_given x ≤ left
 unfolding size_refusal
-size_most left Absent funds h = let z : ◌≡◌ {A = ℕ} 0 1 = cc in absurd (omega arith)
-size_most left (Given x) funds h = ltb-false left (nat_of x) (passed _ _ _ (passed _ _ _ h).1).0
+size_most left None funds h = let z : ◌≡◌ {A = ℕ} 0 1 = cc in absurd (omega arith)
+size_most left (Some x) funds h = ltb-false left (nat_of x) (passed _ _ _ (passed _ _ _ h).1).0
 
 -- an accepted match is of a maker that rests, on its side, at its price, and of no more than it has
-maker-rests : {B : Type 0} (s : L3Side) (p : ℤ) (q : ℕ) → maker_refusal none s p q ≡ none → B
+maker-rests : {B : Type 0} (s : L3Side) (p : ℤ) (q : ℕ) → maker_refusal None s p q ≡ None → B
 unfolding maker_refusal
 maker-rests s p q h = let z : ◌≡◌ {A = ℕ} 0 1 = cc in absurd (omega arith)
 
-matched : (l : List Entry) (f : Figure) (m : OrderId) (s : L3Side) (p : ℤ) (q : ℕ) (e : Entry) → Tallies f l → find m l ≡ some e → maker_refusal (some e) s p q ≡ none
+matched : (l : List Entry) (f : Figure) (m : OrderId) (s : L3Side) (p : ℤ) (q : ℕ) (e : Entry) → Tallies f l → find m l ≡ Some e → maker_refusal (Some e) s p q ≡ None
     → Tallies (less s (nat_of p) q f) (cut m (e.remaining - q) l)
 unfolding maker_refusal
 matched l f m s p q e t o h =
@@ -117,13 +114,13 @@ matched l f m s p q e t o h =
     rw (y, ← x) (rw z at (cut_tallies l f m (e.remaining - q) e t o (omega arith)))
 
 -- an accepted change is to a size given, and no larger
-change-size : (e : Entry) (s : L3Side) (why : ChangeReason) (p old_size new_size old_price new_price funds : OptionalAmount)
-    → change_refusal (some e) s why p old_size new_size old_price new_price funds ≡ none → size_given new_size ≤ e.remaining
+change-size : (e : Entry) (s : L3Side) (why : ChangeReason) (p old_size new_size old_price new_price funds : Option ℤ)
+    → change_refusal (Some e) s why p old_size new_size old_price new_price funds ≡ None → size_given new_size ≤ e.remaining
 unfolding change_refusal
 change-size e s why p old_size new_size old_price new_price funds h =
     size_most e.remaining new_size funds (passed _ _ _ (passed _ _ _ (passed _ _ _ h).1).1).1
 
-changed : (l : List Entry) (f : Figure) (d : OrderId) (r : ℕ) (mark : Decrease) (e : Entry) → Tallies f l → find d l ≡ some e → r ≤ e.remaining
+changed : (l : List Entry) (f : Figure) (d : OrderId) (r : ℕ) (mark : Option ℕ) (e : Entry) → Tallies f l → find d l ≡ Some e → r ≤ e.remaining
     → Tallies (less e.side e.price (e.remaining - r) f) (line_by (cond (eqb r e.remaining) keep (cut_to d r mark)) l)
 changed l f d r mark e t q z = noop (eqb r e.remaining) refl
   where
@@ -131,7 +128,7 @@ changed l f d r mark e t q z = noop (eqb r e.remaining) refl
     noop true k = less-nothing l f e.side e.price (e.remaining - r) t (omega (arith, eqb-true r e.remaining k))
     noop false k = cut_tallies l f d r e t q z
 
-pub event_tallies : (v : VenueRules) (l : List Entry) (seq : ℕ) (x : L3Event) (f : Figure) → Tallies f l → event_refusal v l x ≡ none
+pub event_tallies : (v : VenueRules) (l : List Entry) (seq : ℕ) (x : L3Event) (f : Figure) → Tallies f l → event_refusal v l x ≡ None
     → Tallies (tally v l x f) (line_by (effect v l seq x) l)
 unfolding Tallies event_refusal effect tally
 event_tallies v l seq (Received d s) f t h = t
@@ -140,19 +137,19 @@ event_tallies v l seq (Open d s p q) f t h =
 event_tallies v l seq (Done d s p why r) f t h = go (find d l) refl
   where
     go : (o : Option Entry) → find d l ≡ o → Tallies (less_of o (λ (e : Entry). e.remaining) f) (line_by (done_effect d o) l)
-    go none q = t
-    go (some e) q = simp sub-zero at (cut_tallies l f d 0 e t q (omega arith))
+    go None q = t
+    go (Some e) q = simp sub-zero at (cut_tallies l f d 0 e t q (omega arith))
 event_tallies v l seq (Match m a s p q) f t h = go (find m l) refl (passed _ _ _ h).1
   where
-    go : (o : Option Entry) → find m l ≡ o → maker_refusal o s p (nat_of q) ≡ none → Tallies (less s (nat_of p) (nat_of q) f) (line_by (match_effect m o (nat_of q)) l)
-    go none o h = maker-rests s p (nat_of q) h
-    go (some e) o h = matched l f m s p (nat_of q) e t o h
+    go : (o : Option Entry) → find m l ≡ o → maker_refusal o s p (nat_of q) ≡ None → Tallies (less s (nat_of p) (nat_of q) f) (line_by (match_effect m o (nat_of q)) l)
+    go None o h = maker-rests s p (nat_of q) h
+    go (Some e) o h = matched l f m s p (nat_of q) e t o h
 event_tallies v l seq (Change d s why p old_size new_size old_price new_price funds) f t h = go (find d l) refl h
   where
-    go : (o : Option Entry) → find d l ≡ o → change_refusal o s why p old_size new_size old_price new_price funds ≡ none
+    go : (o : Option Entry) → find d l ≡ o → change_refusal o s why p old_size new_size old_price new_price funds ≡ None
         → Tallies (less_of o (λ (e : Entry). e.remaining - size_given new_size) f) (line_by (change_effect seq d o (size_given new_size)) l)
-    go none q h = t
-    go (some e) q h = changed l f d (size_given new_size) _ e t q (change-size e s why p old_size new_size old_price new_price funds h)
+    go None q h = t
+    go (Some e) q h = changed l f d (size_given new_size) _ e t q (change-size e s why p old_size new_size old_price new_price funds h)
 event_tallies v l seq (Unsupported k) f t h = t
 
 -- a snapshot's sizes, summed one by one, are the volumes of its line

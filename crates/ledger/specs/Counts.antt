@@ -1,6 +1,5 @@
 -- The twelve counts, worked out from the calls alone: where 01 counts a call, and how many calls so far it counts there. Where is said by the counter's name.
-use Rattle.std.specs.Prelude.{ℕ, ◌+◌, Bool, false, cond, List, [], ◌∷◌, eqb, ltb}
-use Rattle.std.proofs.Math.Option.{Option, none, some}
+use Rattle.std.specs.Prelude.{ℕ, ◌+◌, Bool, false, cond, List, [], ◌∷◌, eqb, ltb, Option, Some, None}
 use Rattle.message.specs.declared.L3Event.{L3Event}
 use Rattle.message.specs.declared.L3Message.{L3Message}
 use Rattle.book.specs.Line.{Entry}
@@ -26,39 +25,39 @@ use Rattle.ledger.specs.Ledger.{Config, Call, bootstrap, apply, step, read, name
 
 -- 01, apply: "another product is 10 (counts wrong_product) .. an invalid book is 17 (counts skipped_while_invalid)"
 abbrev pub answer_place : ApplyAnswer → Option Counter
-answer_place (answers.Applied a) = none
-answer_place (answers.Unusable e) = none
-answer_place answers.AmountOutOfRange = none
-answer_place answers.WrongProduct = some counters.WrongProduct
-answer_place answers.NotBootstrapped = none
-answer_place (answers.Invalidated i) = none
-answer_place (answers.AwaitingSnapshot i) = some counters.SkippedWhileInvalid
+answer_place (answers.Applied a) = None
+answer_place (answers.Unusable e) = None
+answer_place answers.AmountOutOfRange = None
+answer_place answers.WrongProduct = Some counters.WrongProduct
+answer_place answers.NotBootstrapped = None
+answer_place (answers.Invalidated i) = None
+answer_place (answers.AwaitingSnapshot i) = Some counters.SkippedWhileInvalid
 
 -- "Acceptance .. adds one to one counter"; what invalidates is not counted
 abbrev pub message_place : VenueRules → List Entry → L3Event → Option ApplyAnswer → Option InvalidationKind → Option Counter
-message_place v l e (some a) t = answer_place a
-message_place v l e none (some k) = none
-message_place v l e none none = some (counter_of v l e)
+message_place v l e (Some a) t = answer_place a
+message_place v l e None (Some k) = None
+message_place v l e None None = Some (counter_of v l e)
 
 -- "dropped and counted"
 abbrev pub step_place : Option StepAnswer → Bool → Option Counter → Option Counter
-step_place (some a) d o = none
-step_place none d o = cond d (some counters.HandshakeDropped) o
+step_place (Some a) d o = None
+step_place None d o = cond d (Some counters.HandshakeDropped) o
 
 -- 01, bootstrap: "Refusals 10 to 14 add one to rejected_snapshots"
 abbrev pub snapshot_place : Option SnapshotAnswer → Option Counter
-snapshot_place none = none
-snapshot_place (some snapshots.Bootstrapped) = none
-snapshot_place (some (snapshots.Unusable e)) = none
-snapshot_place (some snapshots.NotAPiece) = none
-snapshot_place (some snapshots.AmountOutOfRange) = none
-snapshot_place (some snapshots.ListFull) = none
-snapshot_place (some (snapshots.Rejected e)) = some counters.RejectedSnapshots
+snapshot_place None = None
+snapshot_place (Some snapshots.Bootstrapped) = None
+snapshot_place (Some (snapshots.Unusable e)) = None
+snapshot_place (Some snapshots.NotAPiece) = None
+snapshot_place (Some snapshots.AmountOutOfRange) = None
+snapshot_place (Some snapshots.ListFull) = None
+snapshot_place (Some (snapshots.Rejected e)) = Some counters.RejectedSnapshots
 
 -- once at its place
 abbrev pub hit : Counter → Option Counter → ℕ
-hit i none = 0
-hit i (some k) = cond (eqb (place_of k) (place_of i)) 1 0
+hit i None = 0
+hit i (Some k) = cond (eqb (place_of k) (place_of i)) 1 0
 
 module _ (top : ℕ) (c : Config) where
   unfoldable pub apply_place : View → Lengths → L3Message → Option Counter
@@ -69,7 +68,7 @@ module _ (top : ℕ) (c : Config) where
   place_in w (bootstrap n bytes) = snapshot_place (boot_outcome top c n w bytes)
   place_in w (apply n m) = apply_place w n m
   place_in w (step n h m) = step_place (step_refusal top c.rules n false w (name_of c w) h m) (drops c.product w.start_seq m) (apply_place w n m)
-  place_in w (read q) = none
+  place_in w (read q) = None
 
   -- ---- how many calls are counted at the counter i
 

@@ -1,12 +1,11 @@
 -- The calls that count: the last accepted snapshot, and the messages accepted since, each once. A step's message is repeated by `apply`.
-use Rattle.std.specs.Prelude.{ℕ, false, List, [], ◌∷◌, ◌++◌}
-use Rattle.std.proofs.Math.Option.{Option, none, some}
-use Rattle.piece.specs.declared.ReadSnapshot.{ReadSnapshot}
-use Rattle.piece.specs.declared.ReadSnapshot.TheVariants as pieces
+use Rattle.std.specs.Prelude.{ℕ, false, List, [], ◌∷◌, ◌++◌, Option, Some, None, Result, Ok, Err}
 use Rattle.piece.specs.Piece.{read_snapshot}
 use Rattle.reconstructor_state.specs.State.{View}
 use Rattle.reconstructor_bootstrap.specs.declared.SnapshotAnswer.{SnapshotAnswer}
 use Rattle.ledger.specs.Ledger.{Config, Call, bootstrap, apply, step, read, blank, Outcome, refused, invalidates, dropped, accepted, apply_outcome, step_outcome, boot_outcome, feed_view}
+use Rattle.message.specs.declared.L3Snapshot.{L3Snapshot}
+use Rattle.piece.specs.declared.PieceError.{PieceError}
 
 -- of calls by value, and of exported ones
 abbrev pub kept_by : {A : Type 0} → Outcome → List A → A → List A
@@ -15,10 +14,10 @@ kept_by (invalidates i) ks k = ks
 kept_by dropped ks k = ks
 kept_by accepted ks k = ks ++ (k ∷ [])
 
-abbrev pub kept_boot : {A : Type 0} → Option SnapshotAnswer → ReadSnapshot → List A → A → List A
-kept_boot (some a) s ks k = ks
-kept_boot none (pieces.Refused e) ks k = ks
-kept_boot none (pieces.Snapshot s) ks k = k ∷ []
+abbrev pub kept_boot : {A : Type 0} → Option SnapshotAnswer → Result L3Snapshot PieceError → List A → A → List A
+kept_boot (Some a) s ks k = ks
+kept_boot None (Err e) ks k = ks
+kept_boot None (Ok s) ks k = k ∷ []
 
 module _ (top : ℕ) (c : Config) where
   unfoldable pub kept_after : View → List Call → Call → List Call

@@ -1,8 +1,7 @@
 -- The ledger. 01: "It is fed the book's product, rules and number, then each call's arguments (a handshake value too), but nothing of the state, of lent memory only
 -- the lengths, and no answers. It works the rules above on its own standing (no snapshot, valid or invalid), start_seq, last sequence, number of snapshots and
 -- line of orders (id, side, price, remaining), with a figure for each side and price, all empty at first; 3 never arises here."
-use Rattle.std.specs.Prelude.{ℕ, ◌+◌, ◌-◌, Bool, false, cond, List, [], ◌∷◌, ℤ}
-use Rattle.std.proofs.Math.Option.{Option, none, some}
+use Rattle.std.specs.Prelude.{ℕ, ◌+◌, ◌-◌, Bool, false, cond, List, [], ◌∷◌, ℤ, Option, Some, None, Result, Ok, Err}
 use Rattle.message.specs.declared.L3Side.{L3Side}
 use Rattle.message.specs.declared.OrderId.{OrderId}
 use Rattle.message.specs.declared.ProductId.{ProductId}
@@ -11,8 +10,6 @@ use Rattle.message.specs.declared.L3Event.TheVariants.{Received, Open, Done, Mat
 use Rattle.message.specs.declared.L3Message.{L3Message}
 use Rattle.message.specs.declared.L3Snapshot.{L3Snapshot}
 use Rattle.message.specs.Amounts.{nat_of}
-use Rattle.piece.specs.declared.ReadSnapshot.{ReadSnapshot}
-use Rattle.piece.specs.declared.ReadSnapshot.TheVariants as pieces
 use Rattle.piece.specs.Piece.{read_snapshot}
 use Rattle.book.specs.Line.{Entry, find, same_level}
 use Rattle.book.specs.Memory.{Extent, snapshot, line_by}
@@ -32,6 +29,7 @@ use Rattle.reconstructor_handshake.specs.declared.StepAnswer.{StepAnswer}
 use Rattle.reconstructor_handshake.specs.Step.{step_refusal}
 use Rattle.reconstructor_handshake_rules.specs.Drops.{drops}
 use Rattle.queue.specs.declared.QueueEstimate.{QueueEstimate}
+use Rattle.piece.specs.declared.PieceError.{PieceError}
 
 -- ---- what it is fed
 
@@ -89,9 +87,9 @@ pub data Outcome : Type 0 where
   accepted : Outcome
 
 unfoldable pub outcome_of : Option ApplyAnswer → Option InvalidationKind → Outcome
-outcome_of (some a) t = refused
-outcome_of none (some k) = invalidates k
-outcome_of none none = accepted
+outcome_of (Some a) t = refused
+outcome_of None (Some k) = invalidates k
+outcome_of None None = accepted
 
 -- "A snapshot or message is accepted if, worked in the order above, it meets no number and isn't dropped"; `three` is false here,
 -- and `top`, the ceiling of the limits, is an argument of all that goes by it
@@ -100,8 +98,8 @@ apply_outcome top c n three w m =
     outcome_of (gate_refusal top c.product c.rules n three w m) (turn_refusal c.rules w.line (last_of w.status) m)
 
 unfoldable pub step_outcome_of : Option StepAnswer → Bool → Outcome → Outcome
-step_outcome_of (some a) d o = refused
-step_outcome_of none d o = cond d dropped o
+step_outcome_of (Some a) d o = refused
+step_outcome_of None d o = cond d dropped o
 
 abbrev pub name_of : Config → View → SegmentName
 name_of c w = record { number = c.number; place = w.segments - 1 }
@@ -123,8 +121,8 @@ abbrev pub less : L3Side → ℕ → ℕ → Figure → Figure
 less s p x f = λ s' p'. f s' p' - on s p s' p' x
 
 abbrev pub less_of : Option Entry → (Entry → ℕ) → Figure → Figure
-less_of none x f = f
-less_of (some e) x f = less e.side e.price (x e) f
+less_of None x f = f
+less_of (Some e) x f = less e.side e.price (x e) f
 
 -- "an open adds its size to its figure, a match takes its size off, a `canceled` done of an order in the line takes off what remains, a change of one what
 -- remains less the new size"
@@ -178,15 +176,15 @@ snap_view s bytes w =
       line = line_by (snapshot s.sequence (snapshot_line s bytes)) w.line;
     }
 
-abbrev pub view_boot : Option SnapshotAnswer → ReadSnapshot → List ℕ → View → View
-view_boot (some a) s bytes w = w
-view_boot none (pieces.Refused e) bytes w = w
-view_boot none (pieces.Snapshot s) bytes w = snap_view s bytes w
+abbrev pub view_boot : Option SnapshotAnswer → Result L3Snapshot PieceError → List ℕ → View → View
+view_boot (Some a) s bytes w = w
+view_boot None (Err e) bytes w = w
+view_boot None (Ok s) bytes w = snap_view s bytes w
 
-abbrev pub figure_boot : Option SnapshotAnswer → ReadSnapshot → List ℕ → Figure → Figure
-figure_boot (some a) s bytes f = f
-figure_boot none (pieces.Refused e) bytes f = f
-figure_boot none (pieces.Snapshot s) bytes f = tallied (snapshot_line s bytes) nought
+abbrev pub figure_boot : Option SnapshotAnswer → Result L3Snapshot PieceError → List ℕ → Figure → Figure
+figure_boot (Some a) s bytes f = f
+figure_boot None (Err e) bytes f = f
+figure_boot None (Ok s) bytes f = tallied (snapshot_line s bytes) nought
 
 module _ (top : ℕ) (c : Config) where
   abbrev pub boot_outcome : Lengths → View → List ℕ → Option SnapshotAnswer

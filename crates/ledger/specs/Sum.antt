@@ -1,11 +1,9 @@
 -- Demand 3, the sum rule: one claim about any list of calls on one book from a fresh one. Words in quotation marks are the demand's, or 01's where it is named.
-use Rattle.std.specs.Prelude.{ℕ, ◌+◌, ◌*◌, ◌≤◌, ◌<◌, ◌≡◌, List, [], ◌∷◌, ◌++◌, map, Bool, false, ◌||◌, cond, ltb, ℤ, length, take}
-use Rattle.std.proofs.Math.Option.{some}
+use Rattle.std.specs.Prelude.{ℕ, ◌+◌, ◌*◌, ◌≤◌, ◌<◌, ◌≡◌, List, [], ◌∷◌, ◌++◌, map, Bool, false, ◌||◌, cond, ltb, ℤ, length, take, Some, Ok}
 use Rattle.message.specs.declared.L3Side.{L3Side}
 use Rattle.message.specs.declared.OrderId.{OrderId}
 use Rattle.message.specs.Amounts.{nat_of}
 use Rattle.message.specs.declared.L3Snapshot.{L3Snapshot}
-use Rattle.piece.specs.declared.ReadSnapshot.TheVariants.{Snapshot}
 use Rattle.piece.specs.Piece.{read_snapshot}
 use Rattle.book.specs.Line.{volume, queue}
 use Rattle.book.specs.Rows.{most_rows}
@@ -20,7 +18,6 @@ use Rattle.reconstructor_state.specs.declared.VenueRules.{VenueRules}
 use Rattle.reconstructor_state.specs.State.{Lengths, last_of}
 use Rattle.reconstructor_checks.specs.StateChecks.{over_ceiling, memory_short, book_refusal}
 use Rattle.reconstructor_bootstrap.specs.Snapshot.{snapshot_line}
-use Rattle.reconstructor_view.specs.declared.SequenceAnswer.TheVariants as sequences
 use Rattle.reconstructor_view.specs.Numbers.{sequence_told, best_told, audited_told}
 use Rattle.reconstructor_view.specs.ValueReads.{last_sequence, best_read, audit_read}
 use Rattle.reconstructor_reads.specs.declared.Shown.TheVariants.{Entries}
@@ -121,7 +118,7 @@ pub record Readings (top : ℕ) (v : VenueRules) (w : World) (l : Ledger) : Type
       → (priority_profile top w.book (front n w.memory) sc s out).answer ≡ levels.Shown (Entries (length (prices s l.view.line)))
   -- and so does the last sequence, with the ledger's
   pub last-answers : ledger_standing l ≡ valid → (n : Extent) → Enough top v (extent_of (front n w.memory)) v.max_orders
-      → last_sequence top w.book (front n w.memory) ≡ sequences.Valid (last_of l.view.status)
+      → last_sequence top w.book (front n w.memory) ≡ Ok (last_of l.view.status)
   -- "From the message that invalidated the book to the next accepted snapshot": the ledger is invalid
   pub turned-away : ledger_standing l ≡ invalid → (n : Extent) → TurnedAway top v w.book (front n w.memory)
   -- the stale one: what it shows are the ledger's figures, which 20 to 44 leave as they stood
@@ -169,7 +166,7 @@ pub record SumRule (top : ℕ) (c : Config) (mem : Memory) (sg : List Segment) (
   -- 01, Values in the domain: "A level sum never exceeds 4.096 × 10^18"
   pub bound : (s : L3Side) (p : ℕ) → (feed_all top c fresh ks).figure s p ≤ 4096000000000000000
   -- and none on the way in a snapshot that reads and has no more than 4,096 orders, accepted or refused later: those of its first n orders
-  pub on_the_way : (bytes : List ℕ) (x : L3Snapshot) → read_snapshot bytes ≡ Snapshot x → x.bids + x.asks ≤ most_rows → (n : ℕ) (s : L3Side) (p : ℕ)
+  pub on_the_way : (bytes : List ℕ) (x : L3Snapshot) → read_snapshot bytes ≡ Ok x → x.bids + x.asks ≤ most_rows → (n : ℕ) (s : L3Side) (p : ℕ)
       → volume s p (take n (snapshot_line x bytes)) ≤ 4096000000000000000
   -- "Both equal those of a fresh book with the same product and rules fed that snapshot and the messages accepted since", any words and records in its memory,
   -- lent as much at each call
@@ -179,7 +176,7 @@ pub record SumRule (top : ℕ) (c : Config) (mem : Memory) (sg : List Segment) (
   pub when-invalid : ledger_standing (feed_all top c fresh ks) ≡ invalid → WhenInvalid top c (fresh_world c mem sg) ks
   -- 01, The ledger: "3 never arises here", whatever the next call is lent
   pub never-three : (n : Lengths) → Fits (extent_of mem) (length sg) n
-      → book_refusal top (run top (fresh_world c mem sg) ks).book (lent_memory n (run top (fresh_world c mem sg) ks)) (length (lent_segments n (run top (fresh_world c mem sg) ks))) ≡ some MalformedBook → ⊥
+      → book_refusal top (run top (fresh_world c mem sg) ks).book (lent_memory n (run top (fresh_world c mem sg) ks)) (length (lent_segments n (run top (fresh_world c mem sg) ks))) ≡ Some MalformedBook → ⊥
   -- the reads of that book
   pub reads : Readings top c.rules (run top (fresh_world c mem sg) ks) (feed_all top c fresh ks)
 

@@ -1,7 +1,5 @@
 -- Amounts as the rules use them: signed in a message, and a natural number once accepted. "≤ 0" of 01's rules is `nat_of x ≡ 0`.
-use Rattle.std.specs.Prelude.{ℕ, Bool, true, false, not, eqb, ℤ, pos, negsuc}
-use Rattle.message.specs.declared.OptionalAmount.{OptionalAmount}
-use Rattle.message.specs.declared.OptionalAmount.TheVariants.{Absent, Given}
+use Rattle.std.specs.Prelude.{ℕ, Bool, true, false, not, eqb, ℤ, pos, negsuc, Option, Some, None}
 
 -- an amount above zero, as a number; 0 where it is not
 abbrev pub nat_of : ℤ → ℕ
@@ -18,11 +16,11 @@ differs (pos n) m = not (eqb n m)
 differs (negsuc n) m = true
 
 -- 01, Done and Change: "a given price differs"
-unfoldable pub given_differs : OptionalAmount → ℕ → Bool
-given_differs Absent m = false
-given_differs (Given x) m = differs x m
+unfoldable pub given_differs : Option ℤ → ℕ → Bool
+given_differs None m = false
+given_differs (Some x) m = differs x m
 
 -- 01, Done: "36 if remaining is absent or differs"
-unfoldable pub absent_or_differs : OptionalAmount → ℕ → Bool
-absent_or_differs Absent m = true
-absent_or_differs (Given x) m = differs x m
+unfoldable pub absent_or_differs : Option ℤ → ℕ → Bool
+absent_or_differs None m = true
+absent_or_differs (Some x) m = differs x m

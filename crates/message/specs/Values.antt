@@ -1,7 +1,5 @@
 -- Amounts and their range. 01, "Values in the domain": an amount is a signed 64-bit whole number of units of 10^-8, from −10^15 to 10^15.
-use Rattle.std.specs.Prelude.{ℕ, Bool, true, ◌&&◌, List, [], ◌∷◌, leb, ℤ, nat_abs}
-use Rattle.message.specs.declared.OptionalAmount.{OptionalAmount}
-use Rattle.message.specs.declared.OptionalAmount.TheVariants.{Absent, Given}
+use Rattle.std.specs.Prelude.{ℕ, Bool, true, ◌&&◌, List, [], ◌∷◌, leb, ℤ, nat_abs, Option, Some, None}
 use Rattle.message.specs.declared.L3Event.{L3Event}
 use Rattle.message.specs.declared.L3Event.TheVariants.{Received, Open, Done, Match, Change, Unsupported}
 use Rattle.message.specs.declared.SnapshotOrder.{SnapshotOrder}
@@ -14,9 +12,9 @@ unfoldable pub in_range : ℤ → Bool
 in_range a = leb (nat_abs a) amount_limit
 
 -- Number 5 speaks of present amounts only.
-unfoldable pub optional_in_range : OptionalAmount → Bool
-optional_in_range Absent = true
-optional_in_range (Given a) = in_range a
+unfoldable pub optional_in_range : Option ℤ → Bool
+optional_in_range None = true
+optional_in_range (Some a) = in_range a
 
 -- Every present amount of an event is in range.
 unfoldable pub event_in_range : L3Event → Bool

@@ -2,8 +2,6 @@
 ghost use Rattle.std.specs.Prelude.{◌≡◌};
 ghost use Rattle.message.specs.Amounts.{nat_of, negative, differs, given_differs, absent_or_differs};
 
-use crate::OptionalAmount;
-
 // An amount above zero, as a number; 0 where it is not.
 pub fn size_of(x: i64) -> u64
     ensures { result ≡ nat_of x }
@@ -28,21 +26,21 @@ pub fn differs(x: i64, m: u64) -> bool
 }
 
 // Whether an amount is given and differs.
-pub fn given_differs(x: OptionalAmount, m: u64) -> bool
+pub fn given_differs(x: Option<i64>, m: u64) -> bool
     ensures { result ≡ given_differs x m }
 {
     match x {
-        OptionalAmount::Absent => false,
-        OptionalAmount::Given(a) => differs(a, m),
+        None => false,
+        Some(a) => differs(a, m),
     }
 }
 
 // Whether an amount is absent, or differs.
-pub fn absent_or_differs(x: OptionalAmount, m: u64) -> bool
+pub fn absent_or_differs(x: Option<i64>, m: u64) -> bool
     ensures { result ≡ absent_or_differs x m }
 {
     match x {
-        OptionalAmount::Absent => true,
-        OptionalAmount::Given(a) => differs(a, m),
+        None => true,
+        Some(a) => differs(a, m),
     }
 }

@@ -31,13 +31,6 @@ pub enum ChangeReason {
     ModifyOrder,
 }
 
-// An amount in units of 10^-8 that a message may leave out.
-#[derive(Clone, Copy)]
-pub enum OptionalAmount {
-    Absent,
-    Given(i64),
-}
-
 // An order id, 128 bits: its 16 bytes in text order, the first eight as the high word.
 #[derive(Clone, Copy)]
 pub struct OrderId {
@@ -71,9 +64,9 @@ pub enum L3Event {
     Done {
         order_id: OrderId,
         side: L3Side,
-        price: OptionalAmount,
+        price: Option<i64>,
         reason: DoneReason,
-        remaining: OptionalAmount,
+        remaining: Option<i64>,
     },
     // A trade between a taker and a resting maker, at the maker's side.
     Match {
@@ -88,12 +81,12 @@ pub enum L3Event {
         order_id: OrderId,
         side: L3Side,
         reason: ChangeReason,
-        price: OptionalAmount,
-        old_size: OptionalAmount,
-        new_size: OptionalAmount,
-        old_price: OptionalAmount,
-        new_price: OptionalAmount,
-        new_funds: OptionalAmount,
+        price: Option<i64>,
+        old_size: Option<i64>,
+        new_size: Option<i64>,
+        old_price: Option<i64>,
+        new_price: Option<i64>,
+        new_funds: Option<i64>,
     },
     // Any other message type, by number.
     Unsupported {
@@ -104,12 +97,12 @@ pub enum L3Event {
 // The optional amounts of a change.
 #[derive(Clone, Copy)]
 pub struct ChangeFields {
-    pub price: OptionalAmount,
-    pub old_size: OptionalAmount,
-    pub new_size: OptionalAmount,
-    pub old_price: OptionalAmount,
-    pub new_price: OptionalAmount,
-    pub new_funds: OptionalAmount,
+    pub price: Option<i64>,
+    pub old_size: Option<i64>,
+    pub new_size: Option<i64>,
+    pub old_price: Option<i64>,
+    pub new_price: Option<i64>,
+    pub new_funds: Option<i64>,
 }
 
 // A sequenced message of one product.

@@ -4,7 +4,7 @@
 ghost use Rattle.std.specs.Prelude.{◌≡◌, ◌&&◌};
 ghost use Rattle.message.specs.Values.{in_range, optional_in_range, event_in_range};
 
-use message::{AMOUNT_LIMIT, L3Event, OptionalAmount};
+use message::{AMOUNT_LIMIT, L3Event};
 
 pub fn in_range(amount: i64) -> bool
     ensures { result ≡ in_range amount }
@@ -16,12 +16,12 @@ pub fn in_range(amount: i64) -> bool
     }
 }
 
-fn optional_in_range(amount: OptionalAmount) -> bool
+fn optional_in_range(amount: Option<i64>) -> bool
     ensures { result ≡ optional_in_range amount }
 {
     match amount {
-        OptionalAmount::Absent => true,
-        OptionalAmount::Given(a) => in_range(a),
+        None => true,
+        Some(a) => in_range(a),
     }
 }
 
@@ -33,12 +33,12 @@ fn both_in_range(one: i64, other: i64) -> bool
 
 // The amounts of a change.
 fn change_in_range(
-    price: OptionalAmount,
-    old_size: OptionalAmount,
-    new_size: OptionalAmount,
-    old_price: OptionalAmount,
-    new_price: OptionalAmount,
-    new_funds: OptionalAmount,
+    price: Option<i64>,
+    old_size: Option<i64>,
+    new_size: Option<i64>,
+    old_price: Option<i64>,
+    new_price: Option<i64>,
+    new_funds: Option<i64>,
 ) -> bool
     ensures { result ≡ (((((optional_in_range price && optional_in_range old_size) && optional_in_range new_size) && optional_in_range old_price) && optional_in_range new_price) && optional_in_range new_funds) }
 {

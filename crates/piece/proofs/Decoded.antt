@@ -1,5 +1,6 @@
 -- What is read and then encoded is the bytes.
 -- Assumes nothing.
+use Rattle.std.specs.Prelude.{Some, None}
 use Prim.Native.Nat.{ℕ, zero, suc, ◌+◌, ◌*◌, ◌/◌, ◌%◌, ◌≤◌, ◌<◌}
 use native.Mathlib.Omega.{arith}
 use native.Mathlib.Nat.{div-div-eq-div-mul, add-zero, zero-add, suc-add}
@@ -20,11 +21,9 @@ use Rattle.piece.specs.Bytes.{AllBytes, little, big, little_bytes, big_bytes, pa
 use Rattle.message.specs.declared.L3Side.TheVariants.{Buy, Sell}
 use Rattle.message.specs.declared.DoneReason.TheVariants.{Filled, Canceled}
 use Rattle.message.specs.declared.ChangeReason.TheVariants.{Stp, ModifyOrder}
-use Rattle.message.specs.declared.OptionalAmount.TheVariants.{Absent, Given}
 use Rattle.message.specs.declared.L3Event.{L3Event}
 use Rattle.message.specs.declared.L3Message.{L3Message}
 use Rattle.message.specs.declared.SnapshotOrder.{SnapshotOrder}
-use Rattle.piece.specs.declared.ReadEvent.TheVariants.{Event}
 use Rattle.piece.proofs.Numbers.{little-part, little-part-bound, big-part, big-part-bound}
 use Rattle.laws.proofs.Bools.{and_yes}
 use Rattle.piece.proofs.Shapes.{shaped, by_kind}
@@ -131,7 +130,7 @@ bit_value : (s : List ℕ) (b w i : ℕ) → present_bit (optional_at s (has_bit
 unfolding optional_at has_bit
 bit_value s b w i = go (eqb (b / w % 2) 1) refl
   where
-    go : (t : Bool) → eqb (b / w % 2) 1 ≡ t → present_bit (cond t (Given (amount_at s i)) Absent) ≡ b / w % 2
+    go : (t : Bool) → eqb (b / w % 2) 1 ≡ t → present_bit (cond t (Some (amount_at s i)) None) ≡ b / w % 2
     go true e = sym (eqb-true (b / w % 2) 1 e)
     go false e = omega (arith, eqb-false (b / w % 2) 1 e)
 
@@ -176,7 +175,7 @@ module _ (s : List ℕ) (all : AllBytes s) where
   optional-fits i false h = tt
 
 module _ (s : List ℕ) (all : AllBytes s) (e : L3Event) where
-  received-stands : eqb (get_or s 0 0) 1 ≡ true → read_received s ≡ Event e → Stands s e
+  received-stands : eqb (get_or s 0 0) 1 ≡ true → read_received s ≡ Some e → Stands s e
   unfolding read_received
   received-stands k q =
       let h = shaped _ _ e q in
@@ -192,7 +191,7 @@ module _ (s : List ℕ) (all : AllBytes s) (e : L3Event) where
         fits = id-fits s all 33 (omega arith);
       })
 
-  open-stands : eqb (get_or s 0 0) 2 ≡ true → read_open s ≡ Event e → Stands s e
+  open-stands : eqb (get_or s 0 0) 2 ≡ true → read_open s ≡ Some e → Stands s e
   unfolding read_open
   open-stands k q =
       let h = shaped _ _ e q in
@@ -209,7 +208,7 @@ module _ (s : List ℕ) (all : AllBytes s) (e : L3Event) where
         fits = (id-fits s all 33 (omega arith), amount-fits s all 50 (omega arith), amount-fits s all 58 (omega arith));
       })
 
-  done-stands : eqb (get_or s 0 0) 3 ≡ true → read_done s ≡ Event e → Stands s e
+  done-stands : eqb (get_or s 0 0) 3 ≡ true → read_done s ≡ Some e → Stands s e
   unfolding read_done done_shaped
   done-stands k q =
       let h = shaped _ _ e q in
@@ -235,7 +234,7 @@ module _ (s : List ℕ) (all : AllBytes s) (e : L3Event) where
         fits = (id-fits s all 33 (omega arith), optional-fits s all 50 _ (omega arith), optional-fits s all 60 _ (omega arith));
       })
 
-  match-stands : eqb (get_or s 0 0) 4 ≡ true → read_match s ≡ Event e → Stands s e
+  match-stands : eqb (get_or s 0 0) 4 ≡ true → read_match s ≡ Some e → Stands s e
   unfolding read_match
   match-stands k q =
       let h = shaped _ _ e q in
@@ -253,7 +252,7 @@ module _ (s : List ℕ) (all : AllBytes s) (e : L3Event) where
         fits = (id-fits s all 33 (omega arith), id-fits s all 49 (omega arith), amount-fits s all 66 (omega arith), amount-fits s all 74 (omega arith));
       })
 
-  change-stands : eqb (get_or s 0 0) 5 ≡ true → read_change s ≡ Event e → Stands s e
+  change-stands : eqb (get_or s 0 0) 5 ≡ true → read_change s ≡ Some e → Stands s e
   unfolding read_change change_shaped change_fields_at change_of
   change-stands k q =
       let h = shaped _ _ e q in
@@ -302,7 +301,7 @@ module _ (s : List ℕ) (all : AllBytes s) (e : L3Event) where
         );
       })
 
-  unsupported-stands : eqb (get_or s 0 0) 6 ≡ true → read_unsupported s ≡ Event e → Stands s e
+  unsupported-stands : eqb (get_or s 0 0) 6 ≡ true → read_unsupported s ≡ Some e → Stands s e
   unfolding read_unsupported
   unsupported-stands k q =
       let h = shaped _ _ e q in
@@ -315,14 +314,14 @@ module _ (s : List ℕ) (all : AllBytes s) (e : L3Event) where
         fits = little-part-bound s all 33 4 (omega arith);
       })
 
-  event-stands : read_event s ≡ Event e → Stands s e
+  event-stands : read_event s ≡ Some e → Stands s e
   event-stands = by_kind s e received-stands open-stands done-stands match-stands change-stands unsupported-stands
 
   -- the message that the bytes hold
   abbrev pub message_at : L3Message
   message_at = record { product_id = product_id_at s 1; sequence = word_at s 17; time_us = word_at s 25; event = e }
 
-  pub message-bytes : read_event s ≡ Event e → message_bytes message_at ≡ s
+  pub message-bytes : read_event s ≡ Some e → message_bytes message_at ≡ s
   unfolding word_at
   message-bytes q =
       let h = event-stands q in
@@ -331,7 +330,7 @@ module _ (s : List ℕ) (all : AllBytes s) (e : L3Event) where
       (product-onto s all _ (omega arith)
       (word-onto s all 17 8 _ (omega arith) (word-onto s all 25 8 _ (omega arith) h.fields)))
 
-  pub message-fits : read_event s ≡ Event e → MessageFits message_at
+  pub message-fits : read_event s ≡ Some e → MessageFits message_at
   unfolding product_id_at word_at
   message-fits q =
       let h = event-stands q in

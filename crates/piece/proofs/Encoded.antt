@@ -1,5 +1,6 @@
 -- What is encoded and then read is the value.
 -- Assumes nothing.
+use Rattle.std.specs.Prelude.{Option, Some, None, Ok, Err}
 use Prim.Native.Nat.{ℕ, ◌+◌, ◌*◌, ◌/◌, ◌%◌, ◌≤◌}
 use native.Mathlib.Omega.{arith}
 use native.Mathlib.Nat.{div-div-eq-div-mul}
@@ -15,7 +16,6 @@ use mir.Syntax.{w64}
 use mir.Val.{to_z, of_z}
 use mir.ValLaws.{of_z_fits}
 use Rattle.message.specs.declared.L3Snapshot.{L3Snapshot}
-use Rattle.piece.specs.declared.ReadSnapshot.TheVariants.{Snapshot as Accepted, Refused as RefusedSnapshot}
 use Rattle.piece.specs.Piece.{bids_at, asks_at, snapshot_shaped, order_from, order_at, orders_from, snapshot_of, read_snapshot, word_at, amount_at, order_id_at, product_id_at, side_of, done_reason_of, change_reason_of, has_bit, optional_at, zero_unless, event_if, read_received, read_open, done_shaped, read_done, read_match, change_shaped, change_fields_at, change_of, read_change, read_unsupported, read_event, message_of, read_message}
 use Rattle.piece.specs.Encode.{Snapshot, orders_bytes, snapshot_bytes, OrdersFit, SnapshotFits, order_id_bytes, product_id_bytes, amount_bytes, optional_bytes, present_bit, presence, side_byte, done_reason_byte, change_reason_byte, message_bytes, Id, Amount, Optional, EventFits, MessageFits}
 use Rattle.piece.specs.Bytes.{little, little_bytes, big_bytes, part}
@@ -25,8 +25,6 @@ use Rattle.message.specs.declared.DoneReason.{DoneReason}
 use Rattle.message.specs.declared.DoneReason.TheVariants.{Filled, Canceled}
 use Rattle.message.specs.declared.ChangeReason.{ChangeReason}
 use Rattle.message.specs.declared.ChangeReason.TheVariants.{Stp, ModifyOrder}
-use Rattle.message.specs.declared.OptionalAmount.{OptionalAmount}
-use Rattle.message.specs.declared.OptionalAmount.TheVariants.{Absent, Given}
 use Rattle.message.specs.declared.OrderId.{OrderId}
 use Rattle.message.specs.declared.ProductId.{ProductId}
 use Rattle.message.specs.declared.L3Event.{L3Event}
@@ -34,8 +32,6 @@ use Rattle.message.specs.declared.L3Event.TheVariants.{Received, Open, Done, Mat
 use Rattle.message.specs.declared.L3Message.{L3Message}
 use Rattle.message.specs.declared.SnapshotOrder.{SnapshotOrder}
 use Rattle.piece.specs.declared.PieceError.TheVariants.{OutOfRange}
-use Rattle.piece.specs.declared.ReadEvent.TheVariants.{Event}
-use Rattle.piece.specs.declared.ReadMessage.TheVariants.{Message, Refused}
 use Rattle.message.specs.Values.{event_in_range, orders_in_range}
 use Rattle.message.proofs.Signed.{back}
 use Rattle.piece.proofs.Numbers.{little-back, big-back}
@@ -58,34 +54,34 @@ unfolding change_reason_of
 change_reason-back Stp = (refl, refl)
 change_reason-back ModifyOrder = (refl, refl)
 
-abbrev is_given : OptionalAmount → Bool
-is_given Absent = false
-is_given (Given a) = true
+abbrev is_given : Option ℤ → Bool
+is_given None = false
+is_given (Some a) = true
 
-bit-small : (a : OptionalAmount) → present_bit a ≤ 1
-bit-small Absent = omega arith
-bit-small (Given a) = omega arith
+bit-small : (a : Option ℤ) → present_bit a ≤ 1
+bit-small None = omega arith
+bit-small (Some a) = omega arith
 
-bit-first : (a : OptionalAmount) (n : ℕ) → has_bit (present_bit a + 2 * n) 1 ≡ is_given a
+bit-first : (a : Option ℤ) (n : ℕ) → has_bit (present_bit a + 2 * n) 1 ≡ is_given a
 unfolding has_bit
-bit-first Absent n = ne_eqb ((0 + 2 * n) / 1 % 2) 1 (λ e. omega arith)
-bit-first (Given a) n = eq-eqb ((1 + 2 * n) / 1 % 2) 1 (omega arith)
+bit-first None n = ne_eqb ((0 + 2 * n) / 1 % 2) 1 (λ e. omega arith)
+bit-first (Some a) n = eq-eqb ((1 + 2 * n) / 1 % 2) 1 (omega arith)
 
-bit-next : (a : OptionalAmount) (n w : ℕ) → has_bit (present_bit a + 2 * n) (2 * w) ≡ has_bit n w
+bit-next : (a : Option ℤ) (n w : ℕ) → has_bit (present_bit a + 2 * n) (2 * w) ≡ has_bit n w
 unfolding has_bit
 bit-next a n w =
     let half : (present_bit a + 2 * n) / 2 ≡ n = omega (arith, bit-small a) in
     ap (λ x. eqb (x % 2) 1) (sym (div-div-eq-div-mul (present_bit a + 2 * n) 2 w) ∙ ap (λ x. x / w) half)
 
-optional-back : (s : List ℕ) (i : ℕ) (a : OptionalAmount) → part s i 8 ≡ optional_bytes a → Optional a → optional_at s (is_given a) i ≡ a
+optional-back : (s : List ℕ) (i : ℕ) (a : Option ℤ) → part s i 8 ≡ optional_bytes a → Optional a → optional_at s (is_given a) i ≡ a
 unfolding optional_at amount_at word_at
-optional-back s i Absent e h = refl
-optional-back s i (Given x) e h = ap Given (ap (λ l. to_z w64 (little l)) e ∙ amount-back x h)
+optional-back s i None e h = refl
+optional-back s i (Some x) e h = ap Some (ap (λ l. to_z w64 (little l)) e ∙ amount-back x h)
 
-zero-back : (s : List ℕ) (i : ℕ) (a : OptionalAmount) → part s i 8 ≡ optional_bytes a → zero_unless s (is_given a) i ≡ true
+zero-back : (s : List ℕ) (i : ℕ) (a : Option ℤ) → part s i 8 ≡ optional_bytes a → zero_unless s (is_given a) i ≡ true
 unfolding zero_unless word_at
-zero-back s i Absent e = eq-eqb (little (part s i 8)) 0 (ap little e ∙ little-back 8 0 (omega arith))
-zero-back s i (Given x) e = refl
+zero-back s i None e = eq-eqb (little (part s i 8)) 0 (ap little e ∙ little-back 8 0 (omega arith))
+zero-back s i (Some x) e = refl
 
 module _ (m : L3Message) (fits : MessageFits m) where
   product-back : product_id_at (message_bytes m) 1 ≡ m.product_id
@@ -105,13 +101,13 @@ module _ (product : ProductId) (sequence time : ℕ) where
   abbrev of : L3Event → List ℕ
   of e = message_bytes (record { product_id = product; sequence = sequence; time_us = time; event = e })
 
-  received-back : (i : OrderId) (side : L3Side) → EventFits (Received i side) → read_received (of (Received i side)) ≡ Event (Received i side)
+  received-back : (i : OrderId) (side : L3Side) → EventFits (Received i side) → read_received (of (Received i side)) ≡ Some (Received i side)
   unfolding read_received event_if order_id_at part big_bytes little_bytes
   received-back i side h =
       rw ((side-back side).1, (side-back side).0, big-back 8 i.high h.0, big-back 8 i.low h.1)
 
   open-back : (i : OrderId) (side : L3Side) (price remaining : ℤ) → EventFits (Open i side price remaining) →
-      read_open (of (Open i side price remaining)) ≡ Event (Open i side price remaining)
+      read_open (of (Open i side price remaining)) ≡ Some (Open i side price remaining)
   unfolding read_open event_if order_id_at amount_at word_at part big_bytes little_bytes
   open-back i side price remaining h =
       rw (
@@ -124,7 +120,7 @@ module _ (product : ProductId) (sequence time : ℕ) where
       )
 
   match_back : (i j : OrderId) (side : L3Side) (price size : ℤ) → EventFits (Match i j side price size) →
-      read_match (of (Match i j side price size)) ≡ Event (Match i j side price size)
+      read_match (of (Match i j side price size)) ≡ Some (Match i j side price size)
   unfolding read_match event_if order_id_at amount_at word_at part big_bytes little_bytes
   match_back i j side price size h =
       rw (
@@ -138,8 +134,8 @@ module _ (product : ProductId) (sequence time : ℕ) where
         amount-back size h.3,
       )
 
-  done-back : (i : OrderId) (side : L3Side) (p : OptionalAmount) (reason : DoneReason) (r : OptionalAmount) →
-      EventFits (Done i side p reason r) → read_done (of (Done i side p reason r)) ≡ Event (Done i side p reason r)
+  done-back : (i : OrderId) (side : L3Side) (p : Option ℤ) (reason : DoneReason) (r : Option ℤ) →
+      EventFits (Done i side p reason r) → read_done (of (Done i side p reason r)) ≡ Some (Done i side p reason r)
   unfolding read_done done_shaped event_if order_id_at part big_bytes little_bytes
   done-back i side p reason r h =
       let s = of (Done i side p reason r) in
@@ -162,9 +158,9 @@ module _ (product : ProductId) (sequence time : ℕ) where
         big-back 8 i.low h.0.1,
       )
 
-  change-back : (i : OrderId) (side : L3Side) (reason : ChangeReason) (p os ns op np nf : OptionalAmount) →
+  change-back : (i : OrderId) (side : L3Side) (reason : ChangeReason) (p os ns op np nf : Option ℤ) →
       EventFits (Change i side reason p os ns op np nf) →
-      read_change (of (Change i side reason p os ns op np nf)) ≡ Event (Change i side reason p os ns op np nf)
+      read_change (of (Change i side reason p os ns op np nf)) ≡ Some (Change i side reason p os ns op np nf)
   unfolding read_change change_shaped change_fields_at change_of event_if order_id_at part big_bytes little_bytes
   change-back i side reason p os ns op np nf h =
       let s = of (Change i side reason p os ns op np nf) in
@@ -203,11 +199,11 @@ module _ (product : ProductId) (sequence time : ℕ) where
         big-back 8 i.low h.0.1,
       )
 
-  unsupported-back : (kind : ℕ) → EventFits (Unsupported kind) → read_unsupported (of (Unsupported kind)) ≡ Event (Unsupported kind)
+  unsupported-back : (kind : ℕ) → EventFits (Unsupported kind) → read_unsupported (of (Unsupported kind)) ≡ Some (Unsupported kind)
   unfolding read_unsupported event_if part big_bytes little_bytes
   unsupported-back kind h = rw (little-back 4 kind h)
 
-  event-back : (e : L3Event) → EventFits e → read_event (of e) ≡ Event e
+  event-back : (e : L3Event) → EventFits e → read_event (of e) ≡ Some e
   unfolding read_event
   event-back (Received i side) h = received-back i side h
   event-back (Open i side p r) h = open-back i side p r h
@@ -217,7 +213,7 @@ module _ (product : ProductId) (sequence time : ℕ) where
   event-back (Unsupported kind) h = unsupported-back kind h
 
 pub message-back : (m : L3Message) → MessageFits m →
-    read_message (message_bytes m) ≡ cond (event_in_range m.event) (Message m) (Refused OutOfRange)
+    read_message (message_bytes m) ≡ cond (event_in_range m.event) (Ok m) (Err OutOfRange)
 unfolding read_message message_of
 message-back m fits =
     rw (
@@ -415,6 +411,6 @@ module _ (v : Snapshot) (fits : SnapshotFits v) where
         asks = length v.asks;
       }
 
-  pub snapshot-back : read_snapshot (snapshot_bytes v) ≡ cond (orders_in_range (v.bids ++ v.asks)) (Accepted header_of) (RefusedSnapshot OutOfRange)
+  pub snapshot-back : read_snapshot (snapshot_bytes v) ≡ cond (orders_in_range (v.bids ++ v.asks)) (Ok header_of) (Err OutOfRange)
   unfolding read_snapshot snapshot_of
   snapshot-back = rw (shaped-back, bids-back, asks_back, all_back, snapshot-product-back, snapshot-sequence-back)

@@ -1,5 +1,6 @@
 -- Reading and encoding undo each other, for messages and for snapshots.
 -- Assumes nothing.
+use Rattle.std.specs.Prelude.{Option, Some, None, Ok, Err}
 use Prim.Native.Nat.{ℕ, ◌+◌}
 use native.Mathlib.Omega.{arith}
 use mathlib.Core.Path.{◌≡◌, refl, sym, ap, subst, ◌∙◌}
@@ -14,22 +15,18 @@ use Rattle.message.specs.declared.L3Event.{L3Event}
 use Rattle.message.specs.declared.L3Message.{L3Message}
 use Rattle.message.specs.declared.L3Snapshot.{L3Snapshot}
 use Rattle.piece.specs.declared.PieceError.TheVariants.{NotAPiece, OutOfRange}
-use Rattle.piece.specs.declared.ReadEvent.{ReadEvent}
-use Rattle.piece.specs.declared.ReadEvent.TheVariants.{Event, NoEvent}
-use Rattle.piece.specs.declared.ReadMessage.TheVariants.{Message, Refused}
-use Rattle.piece.specs.declared.ReadSnapshot.TheVariants.{Snapshot as Accepted, Refused as RefusedSnapshot}
 use Rattle.piece.proofs.Encoded.{message-back, header_of, snapshot-back, bid-orders-back, ask-orders-back}
 use Rattle.piece.proofs.Decoded.{message_at, message-bytes, message-fits, snapshot_at, both-sides, snapshot-bytes, snapshot-fits}
 
 -- ---- messages
 
 module _ (s : List ℕ) (all : AllBytes s) where
-  message-accepted : (m : L3Message) → read_message s ≡ Message m → (message_bytes m ≡ s) × MessageFits m × (event_in_range m.event ≡ true)
+  message-accepted : (m : L3Message) → read_message s ≡ Ok m → (message_bytes m ≡ s) × MessageFits m × (event_in_range m.event ≡ true)
   unfolding read_message message_of
   message-accepted m h = go (read_event s) refl h
     where
-      found : (e : L3Event) → read_event s ≡ Event e → (b : Bool) → event_in_range e ≡ b →
-          cond b (Message (message_at s all e)) (Refused OutOfRange) ≡ Message m →
+      found : (e : L3Event) → read_event s ≡ Some e → (b : Bool) → event_in_range e ≡ b →
+          cond b (Ok (message_at s all e)) (Err OutOfRange) ≡ Ok m →
           (message_bytes m ≡ s) × MessageFits m × (event_in_range m.event ≡ true)
       found e q true w h =
           let same : message_at s all e ≡ m = cc in
@@ -37,31 +34,31 @@ module _ (s : List ℕ) (all : AllBytes s) where
           (message-bytes s all e q, message-fits s all e q, w)
       found e q false w h = let z : ◌≡◌ {A = ℕ} 0 1 = cc in absurd (omega arith)
 
-      go : (r : ReadEvent) → read_event s ≡ r → message_of s r ≡ Message m →
+      go : (r : Option L3Event) → read_event s ≡ r → message_of s r ≡ Ok m →
           (message_bytes m ≡ s) × MessageFits m × (event_in_range m.event ≡ true)
-      go NoEvent q h = let z : ◌≡◌ {A = ℕ} 0 1 = cc in absurd (omega arith)
-      go (Event e) q h = found e q (event_in_range e) refl h
+      go None q h = let z : ◌≡◌ {A = ℕ} 0 1 = cc in absurd (omega arith)
+      go (Some e) q h = found e q (event_in_range e) refl h
 
-  message-out : read_message s ≡ Refused OutOfRange →
+  message-out : read_message s ≡ Err OutOfRange →
       (m : L3Message) × (message_bytes m ≡ s) × MessageFits m × (event_in_range m.event ≡ false)
   unfolding read_message message_of
   message-out h = go (read_event s) refl h
     where
-      found : (e : L3Event) → read_event s ≡ Event e → (b : Bool) → event_in_range e ≡ b →
-          cond b (Message (message_at s all e)) (Refused OutOfRange) ≡ Refused OutOfRange →
+      found : (e : L3Event) → read_event s ≡ Some e → (b : Bool) → event_in_range e ≡ b →
+          cond b (Ok (message_at s all e)) (Err OutOfRange) ≡ Err OutOfRange →
           (m : L3Message) × (message_bytes m ≡ s) × MessageFits m × (event_in_range m.event ≡ false)
       found e q true w h = let z : ◌≡◌ {A = ℕ} 0 1 = cc in absurd (omega arith)
       found e q false w h = (message_at s all e, message-bytes s all e q, message-fits s all e q, w)
 
-      go : (r : ReadEvent) → read_event s ≡ r → message_of s r ≡ Refused OutOfRange →
+      go : (r : Option L3Event) → read_event s ≡ r → message_of s r ≡ Err OutOfRange →
           (m : L3Message) × (message_bytes m ≡ s) × MessageFits m × (event_in_range m.event ≡ false)
-      go NoEvent q h = let z : ◌≡◌ {A = ℕ} 0 1 = cc in absurd (omega arith)
-      go (Event e) q h = found e q (event_in_range e) refl h
+      go None q h = let z : ◌≡◌ {A = ℕ} 0 1 = cc in absurd (omega arith)
+      go (Some e) q h = found e q (event_in_range e) refl h
 
-message_not : (s : List ℕ) → read_message s ≡ Refused NotAPiece → (m : L3Message) → MessageFits m → message_bytes m ≡ s → ⊥
+message_not : (s : List ℕ) → read_message s ≡ Err NotAPiece → (m : L3Message) → MessageFits m → message_bytes m ≡ s → ⊥
 message_not s h m fits e = go (event_in_range m.event) (sym (message-back m fits) ∙ ap read_message e ∙ h)
   where
-    go : (b : Bool) → cond b (Message m) (Refused OutOfRange) ≡ Refused NotAPiece → ⊥
+    go : (b : Bool) → cond b (Ok m) (Err OutOfRange) ≡ Err NotAPiece → ⊥
     go true q = let z : ◌≡◌ {A = ℕ} 0 1 = cc in omega arith
     go false q = let z : ◌≡◌ {A = ℕ} 0 1 = cc in omega arith
 
@@ -73,14 +70,14 @@ message_round_trip =
 
 module _ (v : Snapshot) (fits : SnapshotFits v) where
   snapshot_in : orders_in_range (v.bids ++ v.asks) ≡ true →
-      (h : L3Snapshot) × (read_snapshot (snapshot_bytes v) ≡ Accepted h) × (with_orders (snapshot_bytes v) h ≡ v)
+      (h : L3Snapshot) × (read_snapshot (snapshot_bytes v) ≡ Ok h) × (with_orders (snapshot_bytes v) h ≡ v)
   snapshot_in w = (header_of v fits, rw (snapshot-back v fits, w), rw (bid-orders-back v fits, ask-orders-back v fits))
 
-  snapshot-out : orders_in_range (v.bids ++ v.asks) ≡ false → read_snapshot (snapshot_bytes v) ≡ RefusedSnapshot OutOfRange
+  snapshot-out : orders_in_range (v.bids ++ v.asks) ≡ false → read_snapshot (snapshot_bytes v) ≡ Err OutOfRange
   snapshot-out w = rw (snapshot-back v fits, w)
 
 module _ (s : List ℕ) (all : AllBytes s) where
-  snapshot-accepted : (h : L3Snapshot) → read_snapshot s ≡ Accepted h → (snapshot_bytes (with_orders s h) ≡ s) × SnapshotFits (with_orders s h)
+  snapshot-accepted : (h : L3Snapshot) → read_snapshot s ≡ Ok h → (snapshot_bytes (with_orders s h) ≡ s) × SnapshotFits (with_orders s h)
   unfolding read_snapshot snapshot_of
   snapshot-accepted h q = go (snapshot_shaped s) refl (orders_in_range (orders_from s 0 (bids_at s + asks_at s))) q
     where
@@ -88,7 +85,7 @@ module _ (s : List ℕ) (all : AllBytes s) where
       header = record { product_id = product_id_at s 1; sequence = word_at s 17; bids = bids_at s; asks = asks_at s }
 
       go : (t : Bool) → snapshot_shaped s ≡ t → (b : Bool) →
-          cond t (cond b (Accepted header) (RefusedSnapshot OutOfRange)) (RefusedSnapshot NotAPiece) ≡ Accepted h →
+          cond t (cond b (Ok header) (Err OutOfRange)) (Err NotAPiece) ≡ Ok h →
           (snapshot_bytes (with_orders s h) ≡ s) × SnapshotFits (with_orders s h)
       go true w true q =
           let same : header ≡ h = cc in
@@ -97,7 +94,7 @@ module _ (s : List ℕ) (all : AllBytes s) where
       go true w false q = let z : ◌≡◌ {A = ℕ} 0 1 = cc in absurd (omega arith)
       go false w b q = let z : ◌≡◌ {A = ℕ} 0 1 = cc in absurd (omega arith)
 
-  snapshot-refused : read_snapshot s ≡ RefusedSnapshot OutOfRange →
+  snapshot-refused : read_snapshot s ≡ Err OutOfRange →
       (v : Snapshot) × (snapshot_bytes v ≡ s) × SnapshotFits v × (orders_in_range (v.bids ++ v.asks) ≡ false)
   unfolding read_snapshot snapshot_of
   snapshot-refused q = go (snapshot_shaped s) refl (orders_in_range (orders_from s 0 (bids_at s + asks_at s))) refl q
@@ -106,17 +103,17 @@ module _ (s : List ℕ) (all : AllBytes s) where
       header = record { product_id = product_id_at s 1; sequence = word_at s 17; bids = bids_at s; asks = asks_at s }
 
       go : (t : Bool) → snapshot_shaped s ≡ t → (b : Bool) → orders_in_range (orders_from s 0 (bids_at s + asks_at s)) ≡ b →
-          cond t (cond b (Accepted header) (RefusedSnapshot OutOfRange)) (RefusedSnapshot NotAPiece) ≡ RefusedSnapshot OutOfRange →
+          cond t (cond b (Ok header) (Err OutOfRange)) (Err NotAPiece) ≡ Err OutOfRange →
           (v : Snapshot) × (snapshot_bytes v ≡ s) × SnapshotFits v × (orders_in_range (v.bids ++ v.asks) ≡ false)
       go true w false u q =
           (snapshot_at s all, snapshot-bytes s all w, snapshot-fits s all w, ap orders_in_range (both-sides s all) ∙ u)
       go true w true u q = let z : ◌≡◌ {A = ℕ} 0 1 = cc in absurd (omega arith)
       go false w b u q = let z : ◌≡◌ {A = ℕ} 0 1 = cc in absurd (omega arith)
 
-snapshot_not : (s : List ℕ) → read_snapshot s ≡ RefusedSnapshot NotAPiece → (v : Snapshot) → SnapshotFits v → snapshot_bytes v ≡ s → ⊥
+snapshot_not : (s : List ℕ) → read_snapshot s ≡ Err NotAPiece → (v : Snapshot) → SnapshotFits v → snapshot_bytes v ≡ s → ⊥
 snapshot_not s h v fits e = go (orders_in_range (v.bids ++ v.asks)) (sym (snapshot-back v fits) ∙ ap read_snapshot e ∙ h)
   where
-    go : (b : Bool) → cond b (Accepted (header_of v fits)) (RefusedSnapshot OutOfRange) ≡ RefusedSnapshot NotAPiece → ⊥
+    go : (b : Bool) → cond b (Ok (header_of v fits)) (Err OutOfRange) ≡ Err NotAPiece → ⊥
     go true q = let z : ◌≡◌ {A = ℕ} 0 1 = cc in omega arith
     go false q = let z : ◌≡◌ {A = ℕ} 0 1 = cc in omega arith
 

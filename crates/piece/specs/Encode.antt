@@ -1,6 +1,6 @@
 -- What a piece is: the bytes of a message and of a snapshot. 01, "Rows and pieces". Nothing in the code encodes; the laws of proofs/RoundTrip.antt
 -- hold the reader's definitions in Piece.antt against these.
-use Rattle.std.specs.Prelude.{ℕ, ◌+◌, ◌*◌, ◌<◌, ◌^◌, List, [], ◌∷◌, ◌++◌, ℤ, length}
+use Rattle.std.specs.Prelude.{ℕ, ◌+◌, ◌*◌, ◌<◌, ◌^◌, List, [], ◌∷◌, ◌++◌, ℤ, length, Option, Some, None}
 use Rattle.std.specs.Int.Signed.{mag}
 use Rattle.std.specs.Int.{w64}
 use Rattle.std.proofs.Common.{of_z}
@@ -11,8 +11,6 @@ use Rattle.message.specs.declared.DoneReason.{DoneReason}
 use Rattle.message.specs.declared.DoneReason.TheVariants.{Filled, Canceled}
 use Rattle.message.specs.declared.ChangeReason.{ChangeReason}
 use Rattle.message.specs.declared.ChangeReason.TheVariants.{Stp, ModifyOrder}
-use Rattle.message.specs.declared.OptionalAmount.{OptionalAmount}
-use Rattle.message.specs.declared.OptionalAmount.TheVariants.{Absent, Given}
 use Rattle.message.specs.declared.OrderId.{OrderId}
 use Rattle.message.specs.declared.ProductId.{ProductId}
 use Rattle.message.specs.declared.L3Event.{L3Event}
@@ -34,19 +32,19 @@ abbrev pub amount_bytes : ℤ → List ℕ
 amount_bytes a = little_bytes 8 (of_z w64 a)
 
 -- Absent amounts are eight zero bytes.
-abbrev pub optional_word : OptionalAmount → ℕ
-optional_word Absent = 0
-optional_word (Given a) = of_z w64 a
+abbrev pub optional_word : Option ℤ → ℕ
+optional_word None = 0
+optional_word (Some a) = of_z w64 a
 
-abbrev pub optional_bytes : OptionalAmount → List ℕ
+abbrev pub optional_bytes : Option ℤ → List ℕ
 optional_bytes a = little_bytes 8 (optional_word a)
 
 -- One presence byte, first optional field lowest bit, unused bits 0.
-abbrev pub present_bit : OptionalAmount → ℕ
-present_bit Absent = 0
-present_bit (Given a) = 1
+abbrev pub present_bit : Option ℤ → ℕ
+present_bit None = 0
+present_bit (Some a) = 1
 
-abbrev pub presence : List OptionalAmount → ℕ
+abbrev pub presence : List (Option ℤ) → ℕ
 presence [] = 0
 presence (a ∷ later) = present_bit a + 2 * presence later
 
@@ -137,9 +135,9 @@ Id i = Word i.high × Word i.low
 abbrev pub Amount : ℤ → Type 0
 Amount a = mag a < 2 ^ 63
 
-abbrev pub Optional : OptionalAmount → Type 0
-Optional Absent = Unit {0}
-Optional (Given a) = Amount a
+abbrev pub Optional : Option ℤ → Type 0
+Optional None = Unit {0}
+Optional (Some a) = Amount a
 
 abbrev pub EventFits : L3Event → Type 0
 EventFits (Received order side) = Id order

@@ -1,5 +1,5 @@
 -- What reading a piece finds. 01, "Rows and pieces", and numbers 4 and 5 of its table.
-use Rattle.std.specs.Prelude.{ℕ, zero, suc, ◌+◌, ◌*◌, ◌/◌, ◌%◌, Bool, cond, ◌&&◌, ◌||◌, List, [], ◌∷◌, eqb, leb, ℤ, pos, length, get_or}
+use Rattle.std.specs.Prelude.{ℕ, zero, suc, ◌+◌, ◌*◌, ◌/◌, ◌%◌, Bool, cond, ◌&&◌, ◌||◌, List, [], ◌∷◌, eqb, leb, ℤ, pos, length, get_or, Option, Some, None, Result, Ok, Err}
 use Rattle.std.specs.Int.{w64}
 use Rattle.std.proofs.Common.{to_z}
 use Rattle.piece.specs.Bytes.{part, little, big}
@@ -10,8 +10,6 @@ use Rattle.message.specs.declared.DoneReason.{DoneReason}
 use Rattle.message.specs.declared.DoneReason.TheVariants.{Filled, Canceled}
 use Rattle.message.specs.declared.ChangeReason.{ChangeReason}
 use Rattle.message.specs.declared.ChangeReason.TheVariants.{Stp, ModifyOrder}
-use Rattle.message.specs.declared.OptionalAmount.{OptionalAmount}
-use Rattle.message.specs.declared.OptionalAmount.TheVariants.{Absent, Given}
 use Rattle.message.specs.declared.OrderId.{OrderId}
 use Rattle.message.specs.declared.ProductId.{ProductId}
 use Rattle.message.specs.declared.ChangeFields.{ChangeFields}
@@ -20,12 +18,8 @@ use Rattle.message.specs.declared.L3Event.TheVariants.{Received, Open, Done, Mat
 use Rattle.message.specs.declared.SnapshotOrder.{SnapshotOrder}
 use Rattle.piece.specs.declared.PieceError.{PieceError}
 use Rattle.piece.specs.declared.PieceError.TheVariants.{NotAPiece, OutOfRange}
-use Rattle.piece.specs.declared.ReadEvent.{ReadEvent}
-use Rattle.piece.specs.declared.ReadEvent.TheVariants.{Event, NoEvent}
-use Rattle.piece.specs.declared.ReadMessage.{ReadMessage}
-use Rattle.piece.specs.declared.ReadMessage.TheVariants.{Message, Refused}
-use Rattle.piece.specs.declared.ReadSnapshot.{ReadSnapshot}
-use Rattle.piece.specs.declared.ReadSnapshot.TheVariants.{Snapshot, Refused as RefusedSnapshot}
+use Rattle.message.specs.declared.L3Message.{L3Message}
+use Rattle.message.specs.declared.L3Snapshot.{L3Snapshot}
 
 -- The numbers of 01's table.
 abbrev pub piece_number : PieceError → ℕ
@@ -63,8 +57,8 @@ change_reason_of b = cond (eqb b 0) Stp ModifyOrder
 unfoldable pub has_bit : ℕ → ℕ → Bool
 has_bit b weight = eqb (b / weight % 2) 1
 
-unfoldable pub optional_at : List ℕ → Bool → ℕ → OptionalAmount
-optional_at s present i = cond present (Given (amount_at s i)) Absent
+unfoldable pub optional_at : List ℕ → Bool → ℕ → Option ℤ
+optional_at s present i = cond present (Some (amount_at s i)) None
 
 -- Absent amounts are eight zero bytes.
 unfoldable pub zero_unless : List ℕ → Bool → ℕ → Bool
@@ -72,13 +66,13 @@ zero_unless s present i = present || eqb (word_at s i) 0
 
 -- ---- Messages: kind byte, product 16, sequence 8, time 8, then the Rust's fields in their order, from place 33 on
 
-unfoldable pub event_if : Bool → L3Event → ReadEvent
-event_if shaped e = cond shaped (Event e) NoEvent
+unfoldable pub event_if : Bool → L3Event → Option L3Event
+event_if shaped e = cond shaped (Some e) None
 
-unfoldable pub read_received : List ℕ → ReadEvent
+unfoldable pub read_received : List ℕ → Option L3Event
 read_received s = event_if (eqb (length s) 50 && leb (get_or s 49 0) 1) (Received (order_id_at s 33) (side_of (get_or s 49 0)))
 
-unfoldable pub read_open : List ℕ → ReadEvent
+unfoldable pub read_open : List ℕ → Option L3Event
 read_open s =
     event_if (eqb (length s) 66 && leb (get_or s 49 0) 1)
     (Open (order_id_at s 33) (side_of (get_or s 49 0)) (amount_at s 50) (amount_at s 58))
@@ -90,7 +84,7 @@ done_shaped s =
     zero_unless s (has_bit (get_or s 59 0) 1) 50) &&
     zero_unless s (has_bit (get_or s 59 0) 2) 60
 
-unfoldable pub read_done : List ℕ → ReadEvent
+unfoldable pub read_done : List ℕ → Option L3Event
 read_done s =
     event_if (eqb (length s) 68 && done_shaped s)
     (Done (order_id_at s 33)
@@ -99,7 +93,7 @@ read_done s =
     (done_reason_of (get_or s 58 0))
     (optional_at s (has_bit (get_or s 59 0) 2) 60))
 
-unfoldable pub read_match : List ℕ → ReadEvent
+unfoldable pub read_match : List ℕ → Option L3Event
 read_match s =
     event_if (eqb (length s) 82 && leb (get_or s 65 0) 1)
     (Match (order_id_at s 33) (order_id_at s 49) (side_of (get_or s 65 0)) (amount_at s 66) (amount_at s 74))
@@ -129,34 +123,34 @@ unfoldable pub change_of : OrderId → L3Side → ChangeReason → ChangeFields 
 change_of id side reason f =
     Change id side reason f.price f.old_size f.new_size f.old_price f.new_price f.new_funds
 
-unfoldable pub read_change : List ℕ → ReadEvent
+unfoldable pub read_change : List ℕ → Option L3Event
 read_change s =
     event_if (eqb (length s) 100 && change_shaped s)
     (change_of (order_id_at s 33) (side_of (get_or s 49 0)) (change_reason_of (get_or s 50 0)) (change_fields_at s))
 
-unfoldable pub read_unsupported : List ℕ → ReadEvent
+unfoldable pub read_unsupported : List ℕ → Option L3Event
 read_unsupported s = event_if (eqb (length s) 37) (Unsupported (little (part s 33 4)))
 
 -- Kind byte: 1 received, 2 open, 3 done, 4 match, 5 change, 6 unsupported. No other number is a message's kind, 0 (snapshot) included.
-unfoldable pub read_event : List ℕ → ReadEvent
+unfoldable pub read_event : List ℕ → Option L3Event
 read_event s =
     cond (eqb (get_or s 0 0) 1) (read_received s)
     (cond (eqb (get_or s 0 0) 2) (read_open s)
     (cond (eqb (get_or s 0 0) 3) (read_done s)
     (cond (eqb (get_or s 0 0) 4) (read_match s)
     (cond (eqb (get_or s 0 0) 5) (read_change s)
-    (cond (eqb (get_or s 0 0) 6) (read_unsupported s) NoEvent)))))
+    (cond (eqb (get_or s 0 0) 6) (read_unsupported s) None)))))
 
 -- 4 where the bytes are no piece, then 5 where a present amount is out of range.
-unfoldable pub message_of : List ℕ → ReadEvent → ReadMessage
-message_of s NoEvent = Refused NotAPiece
-message_of s (Event e) =
+unfoldable pub message_of : List ℕ → Option L3Event → Result L3Message PieceError
+message_of s None = Err NotAPiece
+message_of s (Some e) =
     cond (event_in_range e)
-    (Message
+    (Ok
     (record { product_id = product_id_at s 1; sequence = word_at s 17; time_us = word_at s 25; event = e }))
-    (Refused OutOfRange)
+    (Err OutOfRange)
 
-unfoldable pub read_message : List ℕ → ReadMessage
+unfoldable pub read_message : List ℕ → Result L3Message PieceError
 read_message s = message_of s (read_event s)
 
 -- ---- Snapshots: kind byte 0, product 16, sequence 8, time 8 (0 in a snapshot), counts of bids and asks (4 bytes each), then id, price, size an order
@@ -188,12 +182,12 @@ unfoldable pub orders_from : List ℕ → ℕ → ℕ → List SnapshotOrder
 orders_from s place zero = []
 orders_from s place (suc k) = order_at s place ∷ orders_from s (place + 1) k
 
-unfoldable pub snapshot_of : List ℕ → ReadSnapshot
+unfoldable pub snapshot_of : List ℕ → Result L3Snapshot PieceError
 snapshot_of s =
     cond (orders_in_range (orders_from s 0 (bids_at s + asks_at s)))
-    (Snapshot (record { product_id = product_id_at s 1; sequence = word_at s 17; bids = bids_at s; asks = asks_at s }))
-    (RefusedSnapshot OutOfRange)
+    (Ok (record { product_id = product_id_at s 1; sequence = word_at s 17; bids = bids_at s; asks = asks_at s }))
+    (Err OutOfRange)
 
 -- For `bootstrap`, a kind that is not 0 is 4.
-unfoldable pub read_snapshot : List ℕ → ReadSnapshot
-read_snapshot s = cond (snapshot_shaped s) (snapshot_of s) (RefusedSnapshot NotAPiece)
+unfoldable pub read_snapshot : List ℕ → Result L3Snapshot PieceError
+read_snapshot s = cond (snapshot_shaped s) (snapshot_of s) (Err NotAPiece)

@@ -1,5 +1,5 @@
 -- A message, a snapshot without its orders, and an order of one, as words; and what the readers answer.
-use Rattle.std.specs.Prelude.{ℕ, List, [], ◌∷◌}
+use Rattle.std.specs.Prelude.{ℕ, List, [], ◌∷◌, Result, Ok, Err}
 use Rattle.std.specs.Int.{w64}
 use Rattle.std.proofs.Common.{of_z}
 use Rattle.piece.specs.Encode.{kind_byte, side_byte, done_reason_byte, change_reason_byte, present_bit, optional_word}
@@ -9,11 +9,8 @@ use Rattle.message.specs.declared.L3Message.{L3Message}
 use Rattle.message.specs.declared.L3Snapshot.{L3Snapshot}
 use Rattle.message.specs.declared.SnapshotOrder.{SnapshotOrder}
 use Rattle.message.specs.Told.{Told, told}
-use Rattle.piece.specs.declared.ReadMessage.{ReadMessage}
-use Rattle.piece.specs.declared.ReadMessage.TheVariants.{Message, Refused}
-use Rattle.piece.specs.declared.ReadSnapshot.{ReadSnapshot}
-use Rattle.piece.specs.declared.ReadSnapshot.TheVariants.{Snapshot, Refused as RefusedSnapshot}
 use Rattle.piece.specs.Piece.{piece_number}
+use Rattle.piece.specs.declared.PieceError.{PieceError}
 
 -- ---- A message: 21 words
 
@@ -70,10 +67,10 @@ order_words o = o.order_id.high ∷ o.order_id.low ∷ of_z w64 o.price ∷ of_z
 
 -- ---- The readers' answers: 4 or 5, or the value's words
 
-abbrev pub read_message_told : ReadMessage → Told
-read_message_told (Message m) = told 0 (message_list m)
-read_message_told (Refused e) = told (piece_number e) []
+abbrev pub read_message_told : Result L3Message PieceError → Told
+read_message_told (Ok m) = told 0 (message_list m)
+read_message_told (Err e) = told (piece_number e) []
 
-abbrev pub read_snapshot_told : ReadSnapshot → Told
-read_snapshot_told (Snapshot v) = told 0 (snapshot_words v)
-read_snapshot_told (RefusedSnapshot e) = told (piece_number e) []
+abbrev pub read_snapshot_told : Result L3Snapshot PieceError → Told
+read_snapshot_told (Ok v) = told 0 (snapshot_words v)
+read_snapshot_told (Err e) = told (piece_number e) []

@@ -8,10 +8,7 @@ ghost use Rattle.std.proofs.Common.{to_z};
 ghost use Rattle.piece.specs.Bytes.{part, little, big};
 ghost use Rattle.piece.specs.Piece.{piece_number, word_at, amount_at, order_id_at, product_id_at, side_of, done_reason_of, change_reason_of, has_bit, optional_at, zero_unless};
 
-use message::{
-    ChangeReason, DoneReason, L3Event, L3Message, L3Side, L3Snapshot, OptionalAmount, OrderId,
-    ProductId,
-};
+use message::{ChangeReason, DoneReason, L3Side, OrderId, ProductId};
 
 // The words of a message.
 pub const MESSAGE_WORDS: usize = 21;
@@ -35,25 +32,6 @@ impl PieceError {
             PieceError::OutOfRange => 5,
         }
     }
-}
-
-#[derive(Drop)]
-pub enum ReadMessage {
-    Message(L3Message),
-    Refused(PieceError),
-}
-
-#[derive(Drop)]
-pub enum ReadSnapshot {
-    Snapshot(L3Snapshot),
-    Refused(PieceError),
-}
-
-// The fields of a piece of the right shape.
-#[derive(Drop)]
-pub enum ReadEvent {
-    Event(L3Event),
-    NoEvent,
 }
 
 pub fn byte(s: &[u8], i: usize) -> u64
@@ -164,14 +142,14 @@ pub fn has_bit(b: u64, weight: u64) -> bool
     b / weight % 2 == 1
 }
 
-pub fn read_optional(s: &[u8], present: bool, at: usize) -> OptionalAmount
+pub fn read_optional(s: &[u8], present: bool, at: usize) -> Option<i64>
     requires { at + 8 ≤ length s.now }
     ensures { result ≡ optional_at s.now present at }
 {
     if present {
-        OptionalAmount::Given(read_amount(s, at))
+        Some(read_amount(s, at))
     } else {
-        OptionalAmount::Absent
+        None
     }
 }
 

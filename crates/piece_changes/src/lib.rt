@@ -5,9 +5,7 @@ ghost use Rattle.std.specs.Prelude.{◌≡◌, length};
 ghost use Rattle.piece.specs.Piece.{change_shaped, change_fields_at, change_of, read_change};
 
 use message::{ChangeFields, ChangeReason, L3Event, L3Side, OrderId};
-use piece::{
-    ReadEvent, byte, change_reason_of, has_bit, read_optional, read_order_id, side_of, zero_unless,
-};
+use piece::{byte, change_reason_of, has_bit, read_optional, read_order_id, side_of, zero_unless};
 
 fn change_shaped(s: &[u8]) -> bool
     requires { length s.now ≡ 100 }
@@ -62,11 +60,11 @@ fn change_of(order_id: OrderId, side: L3Side, reason: ChangeReason, f: ChangeFie
     }
 }
 
-pub fn read_change(s: &[u8]) -> ReadEvent
+pub fn read_change(s: &[u8]) -> Option<L3Event>
     ensures { result ≡ read_change s.now }
 {
     if s.len() != 100 {
-        return ReadEvent::NoEvent;
+        return None;
     }
     let side = side_of(byte(s, 49));
     let reason = change_reason_of(byte(s, 50));

@@ -6,26 +6,22 @@ ghost use Rattle.piece.specs.Piece.{event_if, read_received, read_open, done_sha
 
 use message::L3Event;
 use piece::{
-    ReadEvent, byte, done_reason_of, has_bit, read_amount, read_le32, read_optional, read_order_id,
-    side_of, zero_unless,
+    byte, done_reason_of, has_bit, read_amount, read_le32, read_optional, read_order_id, side_of,
+    zero_unless,
 };
 
 // The event where the bytes have its shape.
-pub fn event_if(shaped: bool, event: L3Event) -> ReadEvent
+pub fn event_if(shaped: bool, event: L3Event) -> Option<L3Event>
     ensures { result ≡ event_if shaped event }
 {
-    if shaped {
-        ReadEvent::Event(event)
-    } else {
-        ReadEvent::NoEvent
-    }
+    if shaped { Some(event) } else { None }
 }
 
-pub fn read_received(s: &[u8]) -> ReadEvent
+pub fn read_received(s: &[u8]) -> Option<L3Event>
     ensures { result ≡ read_received s.now }
 {
     if s.len() != 50 {
-        return ReadEvent::NoEvent;
+        return None;
     }
     let side = byte(s, 49);
     event_if(
@@ -37,11 +33,11 @@ pub fn read_received(s: &[u8]) -> ReadEvent
     )
 }
 
-pub fn read_open(s: &[u8]) -> ReadEvent
+pub fn read_open(s: &[u8]) -> Option<L3Event>
     ensures { result ≡ read_open s.now }
 {
     if s.len() != 66 {
-        return ReadEvent::NoEvent;
+        return None;
     }
     let side = byte(s, 49);
     event_if(
@@ -67,11 +63,11 @@ fn done_shaped(s: &[u8]) -> bool
         & zero_unless(s, has_bit(presence, 2), 60)
 }
 
-pub fn read_done(s: &[u8]) -> ReadEvent
+pub fn read_done(s: &[u8]) -> Option<L3Event>
     ensures { result ≡ read_done s.now }
 {
     if s.len() != 68 {
-        return ReadEvent::NoEvent;
+        return None;
     }
     let presence = byte(s, 59);
     event_if(
@@ -86,11 +82,11 @@ pub fn read_done(s: &[u8]) -> ReadEvent
     )
 }
 
-pub fn read_match(s: &[u8]) -> ReadEvent
+pub fn read_match(s: &[u8]) -> Option<L3Event>
     ensures { result ≡ read_match s.now }
 {
     if s.len() != 82 {
-        return ReadEvent::NoEvent;
+        return None;
     }
     let side = byte(s, 65);
     event_if(
@@ -105,13 +101,13 @@ pub fn read_match(s: &[u8]) -> ReadEvent
     )
 }
 
-pub fn read_unsupported(s: &[u8]) -> ReadEvent
+pub fn read_unsupported(s: &[u8]) -> Option<L3Event>
     ensures { result ≡ read_unsupported s.now }
 {
     if s.len() != 37 {
-        return ReadEvent::NoEvent;
+        return None;
     }
-    ReadEvent::Event(L3Event::Unsupported {
+    Some(L3Event::Unsupported {
         kind: read_le32(s, 33) as u32,
     })
 }

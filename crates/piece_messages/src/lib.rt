@@ -5,12 +5,12 @@ ghost use Rattle.std.specs.Prelude.{◌≡◌, ◌<◌, length};
 ghost use Rattle.piece.specs.Piece.{read_event, read_message};
 ghost use Rattle.piece.specs.Words.{read_message_told};
 
-use message::L3Message;
+use message::{L3Event, L3Message};
 use message_range::event_in_range;
-use piece::{PieceError, ReadEvent, ReadMessage, byte, read_le64, read_product_id};
+use piece::{PieceError, byte, read_le64, read_product_id};
 
 // The kind byte decides length and fields; the other numbers are no message's kind.
-fn read_event(s: &[u8]) -> ReadEvent
+fn read_event(s: &[u8]) -> Option<L3Event>
     requires { 0 < length s.now }
     ensures { result ≡ read_event s.now }
 {
@@ -22,30 +22,30 @@ fn read_event(s: &[u8]) -> ReadEvent
         4 => piece_events::read_match(s),
         5 => piece_changes::read_change(s),
         6 => piece_events::read_unsupported(s),
-        0 | 7..=255 => ReadEvent::NoEvent,
+        0 | 7..=255 => None,
     }
 }
 
 // The message that the bytes are; else 4 where they are none, then 5 where a present amount is out of range.
-pub fn read_message(bytes: &[u8]) -> ReadMessage
+pub fn read_message(bytes: &[u8]) -> Result<L3Message, PieceError>
     ensures value { result ≡ read_message bytes.now }
     ensures told { read_message_told result ≡ read_message_told (read_message bytes.now) }
 {
     // Shorter than a message's header.
     if bytes.len() < 33 {
-        return ReadMessage::Refused(PieceError::NotAPiece);
+        return Err(PieceError::NotAPiece);
     }
-    let ReadEvent::Event(event) = read_event(bytes) else {
-        return ReadMessage::Refused(PieceError::NotAPiece);
+    let Some(event) = read_event(bytes) else {
+        return Err(PieceError::NotAPiece);
     };
     if event_in_range(event) {
-        ReadMessage::Message(L3Message {
+        Ok(L3Message {
             product_id: read_product_id(bytes, 1),
             sequence: read_le64(bytes, 17),
             time_us: read_le64(bytes, 25),
             event,
         })
     } else {
-        ReadMessage::Refused(PieceError::OutOfRange)
+        Err(PieceError::OutOfRange)
     }
 }

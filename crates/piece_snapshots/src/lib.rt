@@ -8,10 +8,7 @@ ghost use Rattle.piece.specs.Words.{read_snapshot_told};
 
 use message::{L3Snapshot, OrderId, SnapshotOrder};
 use message_range::in_range;
-use piece::{
-    PieceError, ReadSnapshot, byte, read_amount, read_le32, read_le64, read_order_id,
-    read_product_id,
-};
+use piece::{PieceError, byte, read_amount, read_le32, read_le64, read_order_id, read_product_id};
 
 // Whether the bytes have the shape of a snapshot piece. The counts are only compared with the length, so a false one costs no time.
 fn snapshot_shaped(s: &[u8]) -> bool
@@ -78,27 +75,27 @@ fn orders_in_range(bytes: &[u8], n: usize) -> bool
 }
 
 // The snapshot that the bytes are; else 4 where they are none, then 5 where an amount is out of range.
-pub fn read_snapshot(bytes: &[u8]) -> ReadSnapshot
+pub fn read_snapshot(bytes: &[u8]) -> Result<L3Snapshot, PieceError>
     ensures value { result ≡ read_snapshot bytes.now }
     ensures told { read_snapshot_told result ≡ read_snapshot_told (read_snapshot bytes.now) }
 {
     // Shorter than a snapshot without orders.
     if bytes.len() < 41 {
-        return ReadSnapshot::Refused(PieceError::NotAPiece);
+        return Err(PieceError::NotAPiece);
     }
     if !snapshot_shaped(bytes) {
-        return ReadSnapshot::Refused(PieceError::NotAPiece);
+        return Err(PieceError::NotAPiece);
     }
     let bids = read_le32(bytes, 33) as usize;
     let asks = read_le32(bytes, 37) as usize;
     if orders_in_range(bytes, bids + asks) {
-        ReadSnapshot::Snapshot(L3Snapshot {
+        Ok(L3Snapshot {
             product_id: read_product_id(bytes, 1),
             sequence: read_le64(bytes, 17),
             bids,
             asks,
         })
     } else {
-        ReadSnapshot::Refused(PieceError::OutOfRange)
+        Err(PieceError::OutOfRange)
     }
 }

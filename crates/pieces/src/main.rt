@@ -6,7 +6,7 @@ ghost use Rattle.std.specs.Prelude.{◌≡◌, ◌+◌, ◌<◌, ◌≤◌, leng
 ghost use Rattle.piece.specs.Words.{message_words};
 
 use piece::MESSAGE_WORDS;
-use std::io::{self, Read, Stdin, Stdout};
+use std::io::{self, Stdin, Stdout};
 
 // The word of a message where its event's fields start.
 const FIELDS_AT: usize = 5;

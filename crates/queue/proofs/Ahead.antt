@@ -1,10 +1,10 @@
 -- The orders ahead, one more at a time: what their tally is, and how large it grows.
 -- Assumes nothing.
+use Rattle.std.specs.Prelude.{Option, Some, None}
 use Prim.Native.Nat.{ℕ, zero, suc, ◌+◌, ◌*◌, ◌-◌, ◌≤◌, ◌<◌}
 use mathlib.Core.Path.{◌≡◌, refl, sym, ap, ◌∙◌}
 use mathlib.Core.Bool.{Bool, true, false, cond}
 use mathlib.Core.List.{List, [], ◌∷◌}
-use mathlib.Core.Option.{Option, none, some}
 use native.Mathlib.Omega.{arith}
 use lib.Dec.{ltb, eqb}
 use lib.ListN.{length}
@@ -13,8 +13,6 @@ use Rattle.message.specs.declared.L3Side.{L3Side}
 use Rattle.message.specs.declared.OrderId.{OrderId}
 use Rattle.message.specs.Same.{same_id}
 use Rattle.message.specs.Values.{amount_limit}
-use Rattle.book.specs.declared.Found.{Found}
-use Rattle.book.specs.declared.Found.TheVariants.{At, Nothing}
 use Rattle.book.specs.declared.Resting.{Resting}
 use Rattle.book.specs.Line.{same_level}
 use Rattle.book.specs.Rows.{most_rows, row_at, rows_from, rows_of, side_of, id_of, find_row}
@@ -29,48 +27,48 @@ use Rattle.queue.specs.Estimates.{list_bound}
 
 -- ---- a search of the rows
 
-found_from : (ws : List ℕ) (d : OrderId) (i k j : ℕ) → find_row (rows_from ws i k) d i ≡ At j → row_with d (rows_from ws i k) ≡ some (row_at ws j)
+found_from : (ws : List ℕ) (d : OrderId) (i k j : ℕ) → find_row (rows_from ws i k) d i ≡ Some j → row_with d (rows_from ws i k) ≡ Some (row_at ws j)
 unfolding rows_from
 found_from ws d i zero j h = let z : ◌≡◌ {A = ℕ} 0 1 = cc in absurd (omega arith)
 found_from ws d i (suc k) j h = go (same_id (id_of (row_at ws i)) d) (found_from ws d (i + 1) k j) h
   where
-    go : (b : Bool) → (find_row (rows_from ws (i + 1) k) d (i + 1) ≡ At j → row_with d (rows_from ws (i + 1) k) ≡ some (row_at ws j)) → cond b (At i) (find_row (rows_from ws (i + 1) k) d (i + 1)) ≡ At j
-        → cond b (some (row_at ws i)) (row_with d (rows_from ws (i + 1) k)) ≡ some (row_at ws j)
+    go : (b : Bool) → (find_row (rows_from ws (i + 1) k) d (i + 1) ≡ Some j → row_with d (rows_from ws (i + 1) k) ≡ Some (row_at ws j)) → cond b (Some i) (find_row (rows_from ws (i + 1) k) d (i + 1)) ≡ Some j
+        → cond b (Some (row_at ws i)) (row_with d (rows_from ws (i + 1) k)) ≡ Some (row_at ws j)
     go true ih e = let q : i ≡ j = cc in rw q
     go false ih e = ih e
 
-missed-from : (ws : List ℕ) (d : OrderId) (i k : ℕ) → find_row (rows_from ws i k) d i ≡ Nothing → row_with d (rows_from ws i k) ≡ none
+missed-from : (ws : List ℕ) (d : OrderId) (i k : ℕ) → find_row (rows_from ws i k) d i ≡ None → row_with d (rows_from ws i k) ≡ None
 unfolding rows_from
 missed-from ws d i zero h = refl
 missed-from ws d i (suc k) h = go (same_id (id_of (row_at ws i)) d) (missed-from ws d (i + 1) k) h
   where
-    go : (b : Bool) → (find_row (rows_from ws (i + 1) k) d (i + 1) ≡ Nothing → row_with d (rows_from ws (i + 1) k) ≡ none) → cond b (At i) (find_row (rows_from ws (i + 1) k) d (i + 1)) ≡ Nothing
-        → cond b (some (row_at ws i)) (row_with d (rows_from ws (i + 1) k)) ≡ none
+    go : (b : Bool) → (find_row (rows_from ws (i + 1) k) d (i + 1) ≡ None → row_with d (rows_from ws (i + 1) k) ≡ None) → cond b (Some i) (find_row (rows_from ws (i + 1) k) d (i + 1)) ≡ None
+        → cond b (Some (row_at ws i)) (row_with d (rows_from ws (i + 1) k)) ≡ None
     go true ih e = let z : ◌≡◌ {A = ℕ} 0 1 = cc in absurd (omega arith)
     go false ih e = ih e
 
-module _ (ws : List ℕ) (n : ℕ) (d : OrderId) (r : Found) (e : r ≡ find_row (rows_of ws n) d 0) where
-  pub row-found : (j : ℕ) → r ≡ At j → row_with d (rows_of ws n) ≡ some (row_at ws j)
+module _ (ws : List ℕ) (n : ℕ) (d : OrderId) (r : Option ℕ) (e : r ≡ find_row (rows_of ws n) d 0) where
+  pub row-found : (j : ℕ) → r ≡ Some j → row_with d (rows_of ws n) ≡ Some (row_at ws j)
   row-found j h = found_from ws d 0 n j (sym e ∙ h)
 
-  pub row_missed : r ≡ Nothing → row_with d (rows_of ws n) ≡ none
+  pub row_missed : r ≡ None → row_with d (rows_of ws n) ≡ None
   row_missed h = missed-from ws d 0 n (sym e ∙ h)
 
 -- ---- rows that count are rows of the book: sound, and no more than may count
 
-pub with-sound : (d : OrderId) (os : List Resting) (o : Resting) → some_row_broken os ≡ false → row_with d os ≡ some o → row_broken o ≡ false
+pub with-sound : (d : OrderId) (os : List Resting) (o : Resting) → some_row_broken os ≡ false → row_with d os ≡ Some o → row_broken o ≡ false
 with-sound d [] o h e = let z : ◌≡◌ {A = ℕ} 0 1 = cc in absurd (omega arith)
 with-sound d (x ∷ os) o h e = go (same_id (id_of x) d) (with-sound d os o (or_no (row_broken x) (some_row_broken os) h).1) e
   where
-    go : (b : Bool) → (row_with d os ≡ some o → row_broken o ≡ false) → cond b (some x) (row_with d os) ≡ some o → row_broken o ≡ false
+    go : (b : Bool) → (row_with d os ≡ Some o → row_broken o ≡ false) → cond b (Some x) (row_with d os) ≡ Some o → row_broken o ≡ false
     go true ih q = let p : x ≡ o = cc in rw (← p) (or_no (row_broken x) (some_row_broken os) h).0
     go false ih q = ih q
 
-pub entered-some : (t : ℕ) (r : Option Resting) (o : Resting) → entered_at t r ≡ some o → r ≡ some o
-entered-some t none o e = let z : ◌≡◌ {A = ℕ} 0 1 = cc in absurd (omega arith)
-entered-some t (some x) o e = go (eqb x.entered_at t) e
+pub entered-some : (t : ℕ) (r : Option Resting) (o : Resting) → entered_at t r ≡ Some o → r ≡ Some o
+entered-some t None o e = let z : ◌≡◌ {A = ℕ} 0 1 = cc in absurd (omega arith)
+entered-some t (Some x) o e = go (eqb x.entered_at t) e
   where
-    go : (b : Bool) → cond b (some x) none ≡ some o → ◌≡◌ {A = Option Resting} (some x) (some o)
+    go : (b : Bool) → cond b (Some x) None ≡ Some o → ◌≡◌ {A = Option Resting} (Some x) (Some o)
     go true q = q
     go false q = let z : ◌≡◌ {A = ℕ} 0 1 = cc in absurd (omega arith)
 
@@ -80,8 +78,8 @@ still-sound os (e ∷ l) h = go (entered_at e.entered (row_with e.id os)) refl (
   where
     go : (r : Option Resting) → entered_at e.entered (row_with e.id os) ≡ r → some_row_broken (still_ahead os l) ≡ false
         → some_row_broken (joined r (still_ahead os l)) ≡ false
-    go none q ih = ih
-    go (some o) q ih =
+    go None q ih = ih
+    go (Some o) q ih =
         or_both (row_broken o) (some_row_broken (still_ahead os l))
         (with-sound e.id os o h (entered-some e.entered (row_with e.id os) o q))
         ih
@@ -91,8 +89,8 @@ still_few os [] = omega arith
 still_few os (e ∷ l) = go (entered_at e.entered (row_with e.id os)) (still_few os l)
   where
     go : (r : Option Resting) → length (still_ahead os l) ≤ length l → length (joined r (still_ahead os l)) ≤ suc (length l)
-    go none ih = omega arith
-    go (some o) ih = omega arith
+    go None ih = omega arith
+    go (Some o) ih = omega arith
 
 at-sound : (s : L3Side) (p : ℕ) (os : List Resting) → some_row_broken os ≡ false → some_row_broken (rows_at s p os) ≡ false
 at-sound s p [] h = refl
@@ -183,8 +181,8 @@ unfolding entries_from
 entries-done ws k = let e : k - k ≡ 0 = omega arith in rw e
 
 pub joined-tally : (t : ℕ) (r : Option Resting) (os : List Resting) → tally_of t (joined r os) ≡ tally_joined t r (tally_of t os)
-joined-tally t none os = refl
-joined-tally t (some o) os = refl
+joined-tally t None os = refl
+joined-tally t (Some o) os = refl
 
 pub still-small : (t : ℕ) (os : List Resting) (ws : List ℕ) (i k : ℕ) → some_row_broken os ≡ false → k ≤ list_bound
     → Small (tally_of t (still_ahead os (entries_from ws i k)))

@@ -1,7 +1,6 @@
 -- The orders ahead of an order, and what they come to. 01, Reads: "The ahead-list is lent by the caller, three words an order (id, entered_at). An entry
 -- counts only while its id rests with that entered_at."
-use Rattle.std.specs.Prelude.{ℕ, zero, suc, ◌+◌, ◌*◌, Bool, false, not, ◌||◌, ◌&&◌, cond, List, [], ◌∷◌, eqb, ltb, length, get_or}
-use Rattle.std.proofs.Math.Option.{Option, none, some}
+use Rattle.std.specs.Prelude.{ℕ, zero, suc, ◌+◌, ◌*◌, Bool, false, not, ◌||◌, ◌&&◌, cond, List, [], ◌∷◌, eqb, ltb, length, get_or, Option, Some, None}
 use Rattle.message.specs.declared.OrderId.{OrderId}
 use Rattle.message.specs.Same.{same_id}
 use Rattle.book.specs.declared.Resting.{Resting}
@@ -14,13 +13,13 @@ use Rattle.queue.specs.declared.Tally.{Tally}
 
 -- the order of that id
 abbrev pub row_with : OrderId → List Resting → Option Resting
-row_with d [] = none
-row_with d (o ∷ os) = cond (same_id (id_of o) d) (some o) (row_with d os)
+row_with d [] = None
+row_with d (o ∷ os) = cond (same_id (id_of o) d) (Some o) (row_with d os)
 
 -- if it entered at t: an id that is used again names another order
 abbrev pub entered_at : ℕ → Option Resting → Option Resting
-entered_at t none = none
-entered_at t (some o) = cond (eqb o.entered_at t) (some o) none
+entered_at t None = None
+entered_at t (Some o) = cond (eqb o.entered_at t) (Some o) None
 
 -- "three words an order (id, entered_at)"
 abbrev pub ahead_entry_words : ℕ
@@ -44,8 +43,8 @@ entries_from ws i zero = []
 entries_from ws i (suc k) = entry_at ws i ∷ entries_from ws (i + 1) k
 
 abbrev pub joined : Option Resting → List Resting → List Resting
-joined none l = l
-joined (some o) l = o ∷ l
+joined None l = l
+joined (Some o) l = o ∷ l
 
 -- the orders that the entries of an ahead-list stand for now; a doubled entry counts twice
 abbrev pub still_ahead : List Resting → List AheadEntry → List Resting

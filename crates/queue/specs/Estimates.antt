@@ -1,6 +1,5 @@
 -- Queue estimates, and the volume ahead, for every input. 01, Reads: "1, 2, 3, then 15 or 18, then 8, 50 and the Rust's checks in its own order, 7 last".
-use Rattle.std.specs.Prelude.{ℕ, ◌*◌, Bool, true, false, not, ◌||◌, ◌&&◌, cond, List, eqb, ltb, ℤ, pos, length}
-use Rattle.std.proofs.Math.Option.{Option, none, some}
+use Rattle.std.specs.Prelude.{ℕ, ◌*◌, Bool, true, false, not, ◌||◌, ◌&&◌, cond, List, eqb, ltb, ℤ, pos, length, Option, Some, None, Result, Ok, Err}
 use Rattle.message.specs.declared.L3Side.{L3Side}
 use Rattle.message.specs.declared.OrderId.{OrderId}
 use Rattle.message.specs.Amounts.{nat_of}
@@ -26,10 +25,6 @@ use Rattle.queue.specs.declared.QueueEstimate.{QueueEstimate}
 use Rattle.queue.specs.declared.QueueAhead.{QueueAhead}
 use Rattle.queue.specs.declared.QueueError.{QueueError}
 use Rattle.queue.specs.declared.QueueError.TheVariants as errors
-use Rattle.queue.specs.declared.EstimateAnswer.{EstimateAnswer}
-use Rattle.queue.specs.declared.EstimateAnswer.TheVariants as estimates
-use Rattle.queue.specs.declared.AheadAnswer.{AheadAnswer}
-use Rattle.queue.specs.declared.AheadAnswer.TheVariants as answers
 use Rattle.queue.specs.declared.Tally.{Tally}
 use Rattle.queue.specs.Ahead.{row_with, entered_at, ahead_entry_words, entries_from, still_ahead, before, tally_of}
 
@@ -48,10 +43,10 @@ place_unknown rule o = ltb o.kind 2 || (not (eqb o.decreased 0) && loses_place r
 
 -- the answer, and the ahead-list afterwards
 pub record EstimateParts : Type 0 where
-  pub answer : EstimateAnswer
+  pub answer : Result QueueEstimate QueueError
   pub ahead : List ℕ
 
-abbrev pub estimate_leaves : EstimateAnswer → List ℕ → EstimateParts
+abbrev pub estimate_leaves : Result QueueEstimate QueueError → List ℕ → EstimateParts
 estimate_leaves a l = record { answer = a; ahead = l }
 
 -- a hypothetical order created now, behind the orders that rest there
@@ -67,12 +62,12 @@ hypothetical b s z os =
 -- 7: "output too small, the list `queue_estimate` writes included"
 abbrev pub listed : QueueEstimate → List ℕ → List ℕ → EstimateParts
 listed e words l =
-    cond (ltb (length l) (length words)) (estimate_leaves (estimates.Refused errors.OutputTooSmall) l)
-    (estimate_leaves (estimates.Estimate e) (written words l))
+    cond (ltb (length l) (length words)) (estimate_leaves (Err errors.OutputTooSmall) l)
+    (estimate_leaves (Ok e) (written words l))
 
 unfoldable pub estimated : Option ViewError → EstimateParts → List ℕ → EstimateParts
-estimated (some e) p l = estimate_leaves (estimates.Refused (errors.View e)) l
-estimated none p l = p
+estimated (Some e) p l = estimate_leaves (Err (errors.View e)) l
+estimated None p l = p
 
 -- a price that is not above zero is worked as 0, which no row has
 abbrev pub queue_estimate : ℕ → BookReconstructor → Memory → L3Side → ℤ → List ℕ → EstimateParts
@@ -88,16 +83,16 @@ own_estimate b d o =
     record { side = side_of o.kind; price = pos o.price; segment = segment_of b; anchor = Own d o.entered_at }
 
 -- 52: "own id not resting"; then 51
-abbrev pub own_estimated : BookReconstructor → OrderId → Option Resting → EstimateAnswer
-own_estimated b d none = estimates.Refused errors.NotResting
-own_estimated b d (some o) =
-    cond (place_unknown b.rules.size_decrease o) (estimates.Refused errors.PriorityUnknown) (estimates.Estimate (own_estimate b d o))
+abbrev pub own_estimated : BookReconstructor → OrderId → Option Resting → Result QueueEstimate QueueError
+own_estimated b d None = Err errors.NotResting
+own_estimated b d (Some o) =
+    cond (place_unknown b.rules.size_decrease o) (Err errors.PriorityUnknown) (Ok (own_estimate b d o))
 
-unfoldable pub own_viewed : Option ViewError → EstimateAnswer → EstimateAnswer
-own_viewed (some e) a = estimates.Refused (errors.View e)
-own_viewed none a = a
+unfoldable pub own_viewed : Option ViewError → Result QueueEstimate QueueError → Result QueueEstimate QueueError
+own_viewed (Some e) a = Err (errors.View e)
+own_viewed None a = a
 
-abbrev pub queue_estimate_own : ℕ → BookReconstructor → Memory → OrderId → EstimateAnswer
+abbrev pub queue_estimate_own : ℕ → BookReconstructor → Memory → OrderId → Result QueueEstimate QueueError
 queue_estimate_own top b mem d = own_viewed (view_refusal_of top b mem false) (own_estimated b d (row_with d (orders_of mem b.rows)))
 
 -- ---- volume_ahead
@@ -115,7 +110,7 @@ unfoldable pub ahead_refusal : ℕ → BookReconstructor → Memory → QueueEst
 ahead_refusal top b mem q l =
     first (view_refusal_of top b mem false) errors.View
     (check (list_short q.anchor (length l)) errors.AheadListShort
-    (check (not (same_segment q.segment (segment_of b))) errors.StaleEstimate none))
+    (check (not (same_segment q.segment (segment_of b))) errors.StaleEstimate None))
 
 -- "the first by the estimate's kind, then SizeDecreaseKeepsPriority at most once": the second is told by a flag
 abbrev pub queue_ahead : ℕ → Assumption → Bool → Tally → QueueAhead
@@ -131,35 +126,35 @@ queue_ahead at a own t =
     }
 
 -- 51: "under PriorityUnknown .. a counted order ahead decreased after the estimate's sequence"
-unfoldable pub tallied : SizeDecrease → ℕ → Assumption → Bool → Tally → AheadAnswer
+unfoldable pub tallied : SizeDecrease → ℕ → Assumption → Bool → Tally → Result QueueAhead QueueError
 tallied rule at a own t =
-    cond (t.decreased && loses_place rule) (answers.Refused errors.PriorityUnknown) (answers.Ahead (queue_ahead at a own t))
+    cond (t.decreased && loses_place rule) (Err errors.PriorityUnknown) (Ok (queue_ahead at a own t))
 
-unfoldable pub ahead_of : Option QueueError → AheadAnswer → AheadAnswer
-ahead_of (some e) a = answers.Refused e
-ahead_of none a = a
+unfoldable pub ahead_of : Option QueueError → Result QueueAhead QueueError → Result QueueAhead QueueError
+ahead_of (Some e) a = Err e
+ahead_of None a = a
 
 -- ahead of a hypothetical order: the orders of the list that still rest
-abbrev pub list_ahead : SizeDecrease → ℕ → ℕ → ℕ → List ℕ → List Resting → AheadAnswer
+abbrev pub list_ahead : SizeDecrease → ℕ → ℕ → ℕ → List ℕ → List Resting → Result QueueAhead QueueError
 list_ahead rule at k t l os = tallied rule at hypotheses.BackOfVisibleQueueAtCreation false (tally_of t (still_ahead os (entries_from l 0 k)))
 
 -- ahead of an own order, if it rests: 52, then 51
-abbrev pub own_tallied : SizeDecrease → ℕ → Option Resting → Tally → AheadAnswer
-own_tallied rule at none t = answers.Refused errors.NotResting
-own_tallied rule at (some o) t =
-    cond (place_unknown rule o) (answers.Refused errors.PriorityUnknown)
+abbrev pub own_tallied : SizeDecrease → ℕ → Option Resting → Tally → Result QueueAhead QueueError
+own_tallied rule at None t = Err errors.NotResting
+own_tallied rule at (Some o) t =
+    cond (place_unknown rule o) (Err errors.PriorityUnknown)
     (tallied rule at hypotheses.EntrySequenceIsPriority (not (eqb o.decreased 0)) t)
 
 -- 52, also of one "resting with another entered_at"; the orders that rest before it at the estimate's side and price. "The estimate's sequence" is "an own
 -- order's entry"
-abbrev pub own_ahead : SizeDecrease → ℕ → L3Side → ℕ → OrderId → ℕ → List Resting → AheadAnswer
+abbrev pub own_ahead : SizeDecrease → ℕ → L3Side → ℕ → OrderId → ℕ → List Resting → Result QueueAhead QueueError
 own_ahead rule at s p d t os = own_tallied rule at (entered_at t (row_with d os)) (tally_of t (before d (rows_at s p os)))
 
-abbrev pub anchor_ahead : SizeDecrease → ℕ → QueueEstimate → Anchor → List ℕ → List Resting → AheadAnswer
+abbrev pub anchor_ahead : SizeDecrease → ℕ → QueueEstimate → Anchor → List ℕ → List Resting → Result QueueAhead QueueError
 anchor_ahead rule at q (Hypothetical k t) l os = list_ahead rule at k t l os
 anchor_ahead rule at q (Own d t) l os = own_ahead rule at q.side (nat_of q.price) d t os
 
-abbrev pub volume_ahead : ℕ → BookReconstructor → Memory → QueueEstimate → List ℕ → AheadAnswer
+abbrev pub volume_ahead : ℕ → BookReconstructor → Memory → QueueEstimate → List ℕ → Result QueueAhead QueueError
 volume_ahead top b mem q l =
     ahead_of (ahead_refusal top b mem q l)
     (anchor_ahead b.rules.size_decrease (last_of b.status) q q.anchor l (orders_of mem b.rows))

@@ -1,5 +1,5 @@
 -- What the cases of each answer stand for: 01's number, and the values.
-use Rattle.std.specs.Prelude.{ℕ, Bool, true, false, List, [], ◌∷◌}
+use Rattle.std.specs.Prelude.{ℕ, Bool, true, false, List, [], ◌∷◌, Result, Ok, Err}
 use Rattle.std.specs.Int.{w64}
 use Rattle.std.proofs.Common.{of_z}
 use Rattle.message.specs.Told.{Told, told}
@@ -13,10 +13,6 @@ use Rattle.queue.specs.declared.QueueEstimate.{QueueEstimate}
 use Rattle.queue.specs.declared.QueueAhead.{QueueAhead}
 use Rattle.queue.specs.declared.QueueError.{QueueError}
 use Rattle.queue.specs.declared.QueueError.TheVariants as errors
-use Rattle.queue.specs.declared.EstimateAnswer.{EstimateAnswer}
-use Rattle.queue.specs.declared.EstimateAnswer.TheVariants as estimates
-use Rattle.queue.specs.declared.AheadAnswer.{AheadAnswer}
-use Rattle.queue.specs.declared.AheadAnswer.TheVariants as answers
 
 -- why a call is turned away
 abbrev pub queue_error_told : QueueError → Told
@@ -44,9 +40,9 @@ anchor_values (Own d entered) = 1 ∷ d.high ∷ d.low ∷ entered ∷ []
 abbrev pub estimate_values : QueueEstimate → List ℕ
 estimate_values q = side_byte q.side ∷ of_z w64 q.price ∷ q.segment.number ∷ q.segment.place ∷ anchor_values q.anchor
 
-abbrev pub estimate_told : EstimateAnswer → Told
-estimate_told (estimates.Estimate q) = told 0 (estimate_values q)
-estimate_told (estimates.Refused e) = queue_error_told e
+abbrev pub estimate_told : Result QueueEstimate QueueError → Told
+estimate_told (Ok q) = told 0 (estimate_values q)
+estimate_told (Err e) = queue_error_told e
 
 -- ---- a volume ahead: seven values: at_seq, volume, from_snapshot, observed, orders, the first assumption (0 BackOfVisibleQueueAtCreation, 1
 -- EntrySequenceIsPriority), and 1 where SizeDecreaseKeepsPriority is a second, else 0
@@ -64,6 +60,6 @@ abbrev pub ahead_values : QueueAhead → List ℕ
 ahead_values a =
     a.at_seq ∷ a.volume ∷ a.from_snapshot ∷ a.observed ∷ a.orders ∷ assumption_word a.first_assumption ∷ flag_word a.keeps_priority ∷ []
 
-abbrev pub ahead_told : AheadAnswer → Told
-ahead_told (answers.Ahead a) = told 0 (ahead_values a)
-ahead_told (answers.Refused e) = queue_error_told e
+abbrev pub ahead_told : Result QueueAhead QueueError → Told
+ahead_told (Ok a) = told 0 (ahead_values a)
+ahead_told (Err e) = queue_error_told e

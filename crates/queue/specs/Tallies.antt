@@ -1,11 +1,8 @@
 -- How a tally grows, and what the inner functions promise. Nothing here is for a reader to believe: the promises are those of Estimates.antt.
-use Rattle.std.specs.Prelude.{ℕ, suc, ◌+◌, ◌*◌, ◌≤◌, ◌≡◌, false, ◌||◌, cond, ltb}
-use Rattle.std.proofs.Math.Option.{Option, none, some}
+use Rattle.std.specs.Prelude.{ℕ, suc, ◌+◌, ◌*◌, ◌≤◌, ◌≡◌, false, ◌||◌, cond, ltb, Option, Some, None}
 use Rattle.message.specs.Values.{amount_limit}
 use Rattle.book.specs.declared.Resting.{Resting}
 use Rattle.book.specs.Rows.{most_rows}
-use Rattle.queue.specs.declared.Rests.{Rests}
-use Rattle.queue.specs.declared.Rests.TheVariants.{Row, Gone}
 use Rattle.queue.specs.declared.Tally.{Tally}
 use Rattle.queue.specs.Ahead.{decreased_after}
 
@@ -24,8 +21,8 @@ tally_with since o t =
     }
 
 abbrev pub tally_joined : ℕ → Option Resting → Tally → Tally
-tally_joined since none t = t
-tally_joined since (some o) t = tally_with since o t
+tally_joined since None t = t
+tally_joined since (Some o) t = tally_with since o t
 
 -- its sums fit a word with one order more
 pub record Small (t : Tally) : Type 0 where
@@ -35,6 +32,6 @@ pub record Small (t : Tally) : Type 0 where
   pub orders : t.orders ≤ most_rows
 
 -- the row that rests, or none
-abbrev pub RestsFor : Option Resting → Rests → Type 0
-RestsFor r (Row o) = r ≡ some o
-RestsFor r Gone = r ≡ none
+abbrev pub RestsFor : Option Resting → Option Resting → Type 0
+RestsFor r (Some o) = r ≡ Some o
+RestsFor r None = r ≡ None

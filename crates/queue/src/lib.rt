@@ -5,7 +5,6 @@
 ghost use Rattle.std.specs.Prelude.{◌≡◌};
 ghost use Rattle.queue.specs.Numbers.{queue_error_number};
 
-use book::Resting;
 use message::{L3Side, OrderId};
 use reconstructor_segments::SegmentName;
 use reconstructor_view::ViewError;
@@ -67,18 +66,6 @@ pub struct QueueAhead {
     pub keeps_priority: bool,
 }
 
-#[derive(Clone, Copy)]
-pub enum EstimateAnswer {
-    Estimate(QueueEstimate),
-    Refused(QueueError),
-}
-
-#[derive(Clone, Copy)]
-pub enum AheadAnswer {
-    Ahead(QueueAhead),
-    Refused(QueueError),
-}
-
 // Sums over orders ahead, and whether one decreased after the estimate.
 #[derive(Clone, Copy)]
 pub struct Tally {
@@ -87,13 +74,6 @@ pub struct Tally {
     pub observed: u64,
     pub orders: usize,
     pub decreased: bool,
-}
-
-// A row that rests, if any.
-#[derive(Clone, Copy)]
-pub enum Rests {
-    Row(Resting),
-    Gone,
 }
 
 impl QueueError {

@@ -13,23 +13,28 @@ ghost use Rattle.queue.specs.Numbers.{ahead_told};
 
 use book_queue::AHEAD_ENTRY_WORDS;
 use message::{L3Side, OrderId};
-use queue::{AheadAnswer, Anchor, Assumption, QueueAhead, QueueError, QueueEstimate, Rests, Tally};
+use queue::{Anchor, Assumption, QueueAhead, QueueError, QueueEstimate, Tally};
 use queue_place::{loses_place, place_unknown, resting_since};
 use queue_tally::{tally_before, tally_list};
 use reconstructor_state::{BookReconstructor, SizeDecrease, VenueRules};
-use reconstructor_view::SequenceAnswer;
 
 // The most orders of an ahead-list, whatever a call's ceiling is: above it is number 8.
 pub const LIST_BOUND: usize = 4096;
 
 // The answer that a tally gives.
-fn tallied(rule: SizeDecrease, at_seq: u64, first: Assumption, own: bool, t: Tally) -> AheadAnswer
+fn tallied(
+    rule: SizeDecrease,
+    at_seq: u64,
+    first: Assumption,
+    own: bool,
+    t: Tally,
+) -> Result<QueueAhead, QueueError>
     ensures { result ≡ tallied rule at_seq first own t }
 {
     if t.decreased & loses_place(rule) {
-        return AheadAnswer::Refused(QueueError::PriorityUnknown);
+        return Err(QueueError::PriorityUnknown);
     }
-    AheadAnswer::Ahead(QueueAhead {
+    Ok(QueueAhead {
         at_seq,
         volume: t.volume,
         from_snapshot: t.from_snapshot,
@@ -63,7 +68,7 @@ fn ahead_of_list(
     orders: usize,
     created_at: u64,
     last_seq: u64,
-) -> AheadAnswer
+) -> Result<QueueAhead, QueueError>
     requires lent { Lent rows.now book.rows × (some_row_broken (orders_of (memory rows.now) book.rows) ≡ false) }
     requires orders_in_bounds { (ahead_entry_words * orders ≤ length ahead.now) × (orders ≤ list_bound) }
     ensures { result ≡ list_ahead book.rules.size_decrease last_seq orders created_at ahead.now (orders_of (memory rows.now) book.rows) }
@@ -89,18 +94,18 @@ fn ahead_of_own(
     own: OrderId,
     entered_at: u64,
     last_seq: u64,
-) -> AheadAnswer
+) -> Result<QueueAhead, QueueError>
     requires { Lent rows.now book.rows × (some_row_broken (orders_of (memory rows.now) book.rows) ≡ false) }
     ensures { result ≡ own_ahead book.rules.size_decrease last_seq side price own entered_at (orders_of (memory rows.now) book.rows) }
 {
     let rules = book.rules;
     let rule = rules.size_decrease;
     let n = book.rows;
-    let Rests::Row(o) = resting_since(rows, n, own, entered_at) else {
-        return AheadAnswer::Refused(QueueError::NotResting);
+    let Some(o) = resting_since(rows, n, own, entered_at) else {
+        return Err(QueueError::NotResting);
     };
     if place_unknown(rule, o) {
-        return AheadAnswer::Refused(QueueError::PriorityUnknown);
+        return Err(QueueError::PriorityUnknown);
     }
     let t = tally_before(rows, n, side, price, own, entered_at);
     tallied(
@@ -127,7 +132,7 @@ fn anchor_ahead(
     estimate: QueueEstimate,
     ahead: &[u64],
     last_seq: u64,
-) -> AheadAnswer
+) -> Result<QueueAhead, QueueError>
     requires lent { Lent rows.now book.rows × (some_row_broken (orders_of (memory rows.now) book.rows) ≡ false) }
     requires ahead_value { list_short estimate.anchor (length ahead.now) ≡ false }
     ensures { result ≡ anchor_ahead book.rules.size_decrease last_seq estimate estimate.anchor ahead.now (orders_of (memory rows.now) book.rows) }
@@ -153,7 +158,7 @@ pub fn volume_ahead(
     rows: &[u64],
     estimate: QueueEstimate,
     ahead: &[u64],
-) -> AheadAnswer
+) -> Result<QueueAhead, QueueError>
     ensures value { result ≡ volume_ahead ceiling book (memory rows.now) estimate ahead.now }
     ensures told { ahead_told result ≡ ahead_told (volume_ahead ceiling book (memory rows.now) estimate ahead.now) }
 {
@@ -166,19 +171,19 @@ pub fn volume_ahead_under(
     rows: &[u64],
     estimate: QueueEstimate,
     ahead: &[u64],
-) -> AheadAnswer
+) -> Result<QueueAhead, QueueError>
     requires { top ≤ most_rows }
     ensures { result ≡ volume_ahead top book (memory rows.now) estimate ahead.now }
 {
     match reconstructor_view::valid_book(top, book, rows, false) {
-        SequenceAnswer::Refused(why) => AheadAnswer::Refused(QueueError::View(why)),
-        SequenceAnswer::Valid { last_seq } => {
+        Err(why) => Err(QueueError::View(why)),
+        Ok(last_seq) => {
             let anchor = estimate.anchor;
             if list_short(anchor, ahead.len()) {
-                return AheadAnswer::Refused(QueueError::AheadListShort);
+                return Err(QueueError::AheadListShort);
             }
             if is_stale(book, estimate) {
-                return AheadAnswer::Refused(QueueError::StaleEstimate);
+                return Err(QueueError::StaleEstimate);
             }
             anchor_ahead(book, rows, estimate, ahead, last_seq)
         }

@@ -10,9 +10,8 @@ ghost use Rattle.queue.specs.Numbers.{estimate_told};
 
 use book_queue::{AHEAD_ENTRY_WORDS, EntryForm};
 use message::L3Side;
-use queue::{Anchor, EstimateAnswer, QueueError, QueueEstimate};
+use queue::{Anchor, QueueError, QueueEstimate};
 use reconstructor_state::{BookReconstructor, VenueRules};
-use reconstructor_view::SequenceAnswer;
 
 // A hypothetical order of `side` at `price` created at the current sequence, behind every order resting there now. They are listed in `ahead`.
 pub fn queue_estimate(
@@ -21,7 +20,7 @@ pub fn queue_estimate(
     side: L3Side,
     price: i64,
     ahead: &mut [u64],
-) -> EstimateAnswer
+) -> Result<QueueEstimate, QueueError>
     ensures ahead_after { estimate_leaves result ahead.new ≡ queue_estimate ceiling book (memory rows.now) side price ahead.old }
     ensures told { estimate_told result ≡ estimate_told (queue_estimate ceiling book (memory rows.now) side price ahead.old).answer }
 {
@@ -35,21 +34,21 @@ pub fn queue_estimate_under(
     side: L3Side,
     price: i64,
     ahead: &mut [u64],
-) -> EstimateAnswer
+) -> Result<QueueEstimate, QueueError>
     requires { top ≤ most_rows }
     ensures { estimate_leaves result ahead.new ≡ queue_estimate top book (memory rows.now) side price ahead.old }
 {
     let n = book.rows;
     let at = message::amount::size_of(price);
     match reconstructor_view::valid_book(top, book, rows, false) {
-        SequenceAnswer::Refused(why) => EstimateAnswer::Refused(QueueError::View(why)),
-        SequenceAnswer::Valid { last_seq } => {
+        Err(why) => Err(QueueError::View(why)),
+        Ok(last_seq) => {
             let orders = book_orders::order_count(rows, n, side, at);
             if ahead.len() < AHEAD_ENTRY_WORDS * orders {
-                return EstimateAnswer::Refused(QueueError::OutputTooSmall);
+                return Err(QueueError::OutputTooSmall);
             }
             book_orders::write_orders(rows, n, side, at, EntryForm::Ahead, ahead);
-            EstimateAnswer::Estimate(QueueEstimate {
+            Ok(QueueEstimate {
                 side,
                 price,
                 segment: book.segment_name(),

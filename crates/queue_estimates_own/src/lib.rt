@@ -11,10 +11,9 @@ ghost use Rattle.queue.specs.Numbers.{estimate_told};
 
 use book::Resting;
 use message::OrderId;
-use queue::{Anchor, EstimateAnswer, QueueError, QueueEstimate, Rests};
+use queue::{Anchor, QueueError, QueueEstimate};
 use queue_place::{place_unknown, resting};
 use reconstructor_state::{BookReconstructor, VenueRules};
-use reconstructor_view::SequenceAnswer;
 
 // Our own order, as an estimate.
 fn own_estimate(book: BookReconstructor, id: OrderId, o: Resting) -> QueueEstimate
@@ -37,7 +36,7 @@ pub fn queue_estimate_own(
     book: BookReconstructor,
     rows: &[u64],
     order_id: OrderId,
-) -> EstimateAnswer
+) -> Result<QueueEstimate, QueueError>
     ensures value { result ≡ queue_estimate_own ceiling book (memory rows.now) order_id }
     ensures told { estimate_told result ≡ estimate_told (queue_estimate_own ceiling book (memory rows.now) order_id) }
 {
@@ -49,22 +48,22 @@ pub fn queue_estimate_own_under(
     book: BookReconstructor,
     rows: &[u64],
     order_id: OrderId,
-) -> EstimateAnswer
+) -> Result<QueueEstimate, QueueError>
     requires { top ≤ most_rows }
     ensures { result ≡ queue_estimate_own top book (memory rows.now) order_id }
 {
     let rules = book.rules;
     let rule = rules.size_decrease;
     match reconstructor_view::valid_book(top, book, rows, false) {
-        SequenceAnswer::Refused(why) => EstimateAnswer::Refused(QueueError::View(why)),
-        SequenceAnswer::Valid { .. } => {
-            let Rests::Row(o) = resting(rows, book.rows, order_id) else {
-                return EstimateAnswer::Refused(QueueError::NotResting);
+        Err(why) => Err(QueueError::View(why)),
+        Ok(_) => {
+            let Some(o) = resting(rows, book.rows, order_id) else {
+                return Err(QueueError::NotResting);
             };
             if place_unknown(rule, o) {
-                return EstimateAnswer::Refused(QueueError::PriorityUnknown);
+                return Err(QueueError::PriorityUnknown);
             }
-            EstimateAnswer::Estimate(own_estimate(book, order_id, o))
+            Ok(own_estimate(book, order_id, o))
         }
     }
 }

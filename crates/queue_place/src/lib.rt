@@ -8,9 +8,8 @@ ghost use Rattle.queue.specs.Ahead.{row_with, entered_at as Ahead·entered_at};
 ghost use Rattle.queue.specs.Tallies.{RestsFor};
 ghost use Rattle.queue.specs.Estimates.{loses_place, place_unknown};
 
-use book::{Found, Resting};
+use book::Resting;
 use message::OrderId;
-use queue::Rests;
 use reconstructor_state::SizeDecrease;
 
 // Whether a decrease loses an order its place.
@@ -31,29 +30,29 @@ pub fn place_unknown(rule: SizeDecrease, o: Resting) -> bool
 }
 
 // The row of an id.
-pub fn resting(rows: &[u64], n: usize, id: OrderId) -> Rests
+pub fn resting(rows: &[u64], n: usize, id: OrderId) -> Option<Resting>
     requires { Lent rows.now n }
     ensures { RestsFor (row_with id (orders_of (memory rows.now) n)) result }
 {
     match book_search::find(rows, n, id) {
-        Found::At(i) => Rests::Row(book::get_row(rows, i)),
-        Found::Nothing => Rests::Gone,
+        Some(i) => Some(book::get_row(rows, i)),
+        None => None,
     }
 }
 
 // The row of an id, if it entered there: an id that is used again names another order.
-pub fn resting_since(rows: &[u64], n: usize, id: OrderId, entered_at: u64) -> Rests
+pub fn resting_since(rows: &[u64], n: usize, id: OrderId, entered_at: u64) -> Option<Resting>
     requires { Lent rows.now n }
     ensures { RestsFor (Ahead·entered_at entered_at (row_with id (orders_of (memory rows.now) n))) result }
 {
     match resting(rows, n, id) {
-        Rests::Row(o) => {
+        Some(o) => {
             if o.entered_at == entered_at {
-                Rests::Row(o)
+                Some(o)
             } else {
-                Rests::Gone
+                None
             }
         }
-        Rests::Gone => Rests::Gone,
+        None => None,
     }
 }

@@ -16,7 +16,7 @@ ghost use Rattle.queue.specs.Estimates.{list_bound};
 use book::Resting;
 use book_queue::AHEAD_ENTRY_WORDS;
 use message::{L3Side, OrderId};
-use queue::{Rests, Tally};
+use queue::Tally;
 
 // What an order adds to the volume from snapshots.
 fn snapshot_size(o: Resting) -> u64
@@ -74,8 +74,8 @@ fn tally_entry(rows: &[u64], n: usize, id: OrderId, entered_at: u64, since: u64,
     ensures { result ≡ tally_joined since (Ahead·entered_at entered_at (row_with id (orders_of (memory rows.now) n))) t }
 {
     match queue_place::resting_since(rows, n, id, entered_at) {
-        Rests::Row(o) => tally_with(since, o, t),
-        Rests::Gone => t,
+        Some(o) => tally_with(since, o, t),
+        None => t,
     }
 }
 

@@ -1,11 +1,11 @@
 -- What a call keeps: a usable state stays usable, so that number 3 never arises later; a refusal leaves all but the counts that 01 names; 16 leaves
 -- the rows.
 -- Assumes nothing.
+use Rattle.std.specs.Prelude.{Option, Some, None}
 use Prim.Native.Nat.{ℕ, ◌<◌}
 use mathlib.Core.Path.{◌≡◌, refl, sym, ◌∙◌, ap}
 use mathlib.Core.Bool.{Bool, false, true}
 use mathlib.Core.List.{List}
-use mathlib.Core.Option.{Option, none, some}
 use native.Mathlib.Omega.{arith}
 use borrow.Author.Tests.{ne_eqb, not-false}
 use lib.Dec.{eqb}
@@ -47,7 +47,7 @@ use Rattle.reconstructor_answers.specs.declared.ApplyAnswer.TheVariants as answe
 
 -- ---- a refusal
 
-module _ (top : ℕ) (b : BookReconstructor) (mem : Memory) (sg : List Segment) (m : L3Message) (a : ApplyAnswer) (h : book_gate top b mem (length sg) (last_segment sg b.segments) m ≡ some a) where
+module _ (top : ℕ) (b : BookReconstructor) (mem : Memory) (sg : List Segment) (m : L3Message) (a : ApplyAnswer) (h : book_gate top b mem (length sg) (last_segment sg b.segments) m ≡ Some a) where
   -- before its turn a message leaves every lent word, and of the state all but the counts
   pub refusal-leaves : ((applied top b mem sg m).answer ≡ a) × ((applied top b mem sg m).book ≡ refused_book b a)
       × ((applied top b mem sg m).memory ≡ mem) × ((applied top b mem sg m).segments ≡ sg)
@@ -78,14 +78,14 @@ uncounted b (answers.AwaitingSnapshot i) p q = let z : ◌≡◌ {A = ℕ} 0 1 =
 decided-stale : (b : BookReconstructor) (mem : Memory) (last : ℕ) (m : L3Message) (o : Option InvalidationKind) (i : Invalidation)
     → (decided b mem last m o).answer ≡ answers.Invalidated i → (decided b mem last m o).memory ≡ mem
 unfolding decided invalidated_reply accepted accepted_reply
-decided-stale b mem last m (some k) i h = refl
-decided-stale b mem last m none i h = let z : ◌≡◌ {A = ℕ} 0 1 = cc in absurd (omega arith)
+decided-stale b mem last m (Some k) i h = refl
+decided-stale b mem last m None i h = let z : ◌≡◌ {A = ℕ} 0 1 = cc in absurd (omega arith)
 
 answered-stale : (b : BookReconstructor) (mem : Memory) (g : Segment) (m : L3Message) (o : Option ApplyAnswer) (i : Invalidation)
     → (after_gate b mem g m o).answer ≡ answers.Invalidated i → (after_gate b mem g m o).memory ≡ mem
 unfolding after_gate refused_reply
-answered-stale b mem g m (some a) i h = refl
-answered-stale b mem g m none i h = decided-stale b mem (last_of b.status) m (turn_refusal b.rules (line_in mem b.rows) (last_of b.status) m) i h
+answered-stale b mem g m (Some a) i h = refl
+answered-stale b mem g m None i h = decided-stale b mem (last_of b.status) m (turn_refusal b.rules (line_in mem b.rows) (last_of b.status) m) i h
 
 -- "the rows stay as stale book"
 pub stale-rows : (top : ℕ) (b : BookReconstructor) (mem : Memory) (sg : List Segment) (m : L3Message) (i : Invalidation)
@@ -100,11 +100,11 @@ unfolding broken
 counts-sound b mem k h = h
 
 -- a message that is let through has its amounts in range, and the book is valid
-let_through : (b : BookReconstructor) (m : L3Message) → admit_refusal b.product_id b.status m ≡ none → event_in_range m.event ≡ true
+let_through : (b : BookReconstructor) (m : L3Message) → admit_refusal b.product_id b.status m ≡ None → event_in_range m.event ≡ true
 unfolding admit_refusal
 let_through b m h = not-false (event_in_range m.event) (passed _ _ _ h).0
 
-pub turn-event : (v : VenueRules) (l : List Entry) (last : ℕ) (m : L3Message) → turn_refusal v l last m ≡ none → event_refusal v l m.event ≡ none
+pub turn-event : (v : VenueRules) (l : List Entry) (last : ℕ) (m : L3Message) → turn_refusal v l last m ≡ None → event_refusal v l m.event ≡ None
 unfolding turn_refusal
 turn-event v l last m h = (first-passed _ _ _ (passed _ _ _ (passed _ _ _ (passed _ _ _ h).1).1).1).0
 
@@ -119,7 +119,7 @@ module _ (top : ℕ) (b : BookReconstructor) (mem : Memory) (lent : ℕ) (u : Us
       rw (refusal-counts b a)
       (usable_as b.status b.rows (refused_book b a).counts mem refl (counts-sound b mem (refused_book b a).counts u.sound))
 
-  module _ (m : L3Message) (h : admit_refusal b.product_id b.status m ≡ none) where
+  module _ (m : L3Message) (h : admit_refusal b.product_id b.status m ≡ None) where
     has_one : 0 < b.segments
     has_one = has-segment b (last_of b.status) (admitted-valid b.product_id b.status m h) (sound b mem u.sound).set
 
@@ -129,17 +129,17 @@ module _ (top : ℕ) (b : BookReconstructor) (mem : Memory) (lent : ℕ) (u : Us
     abbrev Leaves : Option InvalidationKind → Type 0
     Leaves o = Usable top (decided b mem (last_of b.status) m o).book (decided b mem (last_of b.status) m o).memory lent
 
-    stale : (k : InvalidationKind) → Leaves (some k)
+    stale : (k : InvalidationKind) → Leaves (Some k)
     unfolding decided invalidated_reply
     stale k =
         usable_as _ _ _ mem refl
-        (kept (decided b mem (last_of b.status) m (some k)).book mem (orders_of mem b.rows) refl (length-rows mem.rows 0 b.rows) (sound b mem u.sound).formed
+        (kept (decided b mem (last_of b.status) m (Some k)).book mem (orders_of mem b.rows) refl (length-rows mem.rows 0 b.rows) (sound b mem u.sound).formed
         settled-sound)
 
     abbrev does : Effect
     does = effect b.rules (line_in mem b.rows) m.sequence m.event
 
-    fresh : WellFormed b.rules.max_orders b.rules.max_levels (orders_by does (orders_of mem b.rows)) → Leaves none
+    fresh : WellFormed b.rules.max_orders b.rules.max_levels (orders_by does (orders_of mem b.rows)) → Leaves None
     unfolding decided accepted accepted_reply event_deed
     fresh w =
         let os : List Resting = orders_by does (orders_of mem b.rows) in
@@ -147,11 +147,11 @@ module _ (top : ℕ) (b : BookReconstructor) (mem : Memory) (lent : ℕ) (u : Us
         let f = (sound b mem u.sound).few in
         let g = w.few in
         usable_as _ _ _ (memory_by mem b.rows does) (length-stored mem.rows b.rows os (omega arith) (omega arith))
-        (kept (decided b mem (last_of b.status) m none).book (memory_by mem b.rows does) os (rows-stored mem.rows b.rows os) refl w settled-sound)
+        (kept (decided b mem (last_of b.status) m None).book (memory_by mem b.rows does) os (rows-stored mem.rows b.rows os) refl w settled-sound)
 
     through : (o : Option InvalidationKind) → turn_refusal b.rules (line_in mem b.rows) (last_of b.status) m ≡ o → Leaves o
-    through (some k) q = stale k
-    through none q =
+    through (Some k) q = stale k
+    through None q =
         fresh
         (event-formed b.rules mem.rows b.rows m.sequence (sound b mem u.sound).formed m.event (let_through b m h)
         (turn-event b.rules (line_in mem b.rows) (last_of b.status) m q))
@@ -159,8 +159,8 @@ module _ (top : ℕ) (b : BookReconstructor) (mem : Memory) (lent : ℕ) (u : Us
   answered-usable : (g : Segment) (m : L3Message) (o : Option ApplyAnswer) → admit_refusal b.product_id b.status m ≡ o
       → Usable top (after_gate b mem g m o).book (after_gate b mem g m o).memory lent
   unfolding after_gate refused_reply
-  answered-usable g m (some a) h = refused-usable a
-  answered-usable g m none h = through m h (turn_refusal b.rules (line_in mem b.rows) (last_of b.status) m) refl
+  answered-usable g m (Some a) h = refused-usable a
+  answered-usable g m None h = through m h (turn_refusal b.rules (line_in mem b.rows) (last_of b.status) m) refl
 
   -- a state that passes 1, 2 and 3 passes them after any message, lent the same words: 3 never arises later
   pub usable-kept : (g : Segment) (m : L3Message) → Usable top (applied_to top b mem lent g m).book (applied_to top b mem lent g m).memory lent
@@ -177,13 +177,13 @@ module _ (f : Resting → Bool) (b : BookReconstructor) (mem : Memory) (m : L3Me
     (q : all f (orders_by (effect b.rules (line_in mem b.rows) m.sequence m.event) (orders_of mem b.rows)) ≡ true) where
   decided_all : (last : ℕ) (o : Option InvalidationKind) → all f (orders_of (decided b mem last m o).memory (decided b mem last m o).book.rows) ≡ true
   unfolding decided invalidated_reply accepted accepted_reply event_deed
-  decided_all last (some k) = h
-  decided_all last none = ap (all f) (rows-stored mem.rows b.rows (orders_by (effect b.rules (line_in mem b.rows) m.sequence m.event) (orders_of mem b.rows))) ∙ q
+  decided_all last (Some k) = h
+  decided_all last None = ap (all f) (rows-stored mem.rows b.rows (orders_by (effect b.rules (line_in mem b.rows) m.sequence m.event) (orders_of mem b.rows))) ∙ q
 
   answered_all : (g : Segment) (o : Option ApplyAnswer) → all f (orders_left (after_gate b mem g m o)) ≡ true
   unfolding after_gate refused_reply
-  answered_all g (some a) = rw (refusal-counts b a) h
-  answered_all g none = decided_all (last_of b.status) (turn_refusal b.rules (line_in mem b.rows) (last_of b.status) m)
+  answered_all g (Some a) = rw (refusal-counts b a) h
+  answered_all g None = decided_all (last_of b.status) (turn_refusal b.rules (line_in mem b.rows) (last_of b.status) m)
 
   applied_all : (top lent : ℕ) (g : Segment) → all f (orders_left (applied_to top b mem lent g m)) ≡ true
   unfolding applied_to
@@ -204,7 +204,7 @@ indexed-kept top b mem lent g m places bounds n u i w l =
 
 -- ---- the line after an accepted message is its effect on the line before
 
-pub accepted-line : (b : BookReconstructor) (mem : Memory) (last : ℕ) (m : L3Message) → turn_refusal b.rules (line_in mem b.rows) last m ≡ none
+pub accepted-line : (b : BookReconstructor) (mem : Memory) (last : ℕ) (m : L3Message) → turn_refusal b.rules (line_in mem b.rows) last m ≡ None
     → line_in (at_turn b mem last m).memory (at_turn b mem last m).book.rows
     ≡ line_by (effect b.rules (line_in mem b.rows) m.sequence m.event) (line_in mem b.rows)
 unfolding decided accepted accepted_reply event_deed

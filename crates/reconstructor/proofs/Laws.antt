@@ -1,9 +1,9 @@
 -- Laws that committing and the entry share.
 -- Assumes nothing.
+use Rattle.std.specs.Prelude.{Some, None}
 use Prim.Native.Nat.{ℕ}
 use mathlib.Core.Path.{◌≡◌, refl, ap, ap₂, ◌∙◌}
 use mathlib.Core.List.{List}
-use mathlib.Core.Option.{none, some}
 use native.Mathlib.Omega.{arith}
 use lib.ListN.{length}
 use Rattle.message.specs.declared.ProductId.{ProductId}
@@ -37,8 +37,8 @@ commits b ws seq o r vs n e l w =
 
 -- ---- the gate
 
-pub gate-stops : (top : ℕ) (b : BookReconstructor) (mem : Memory) (lent : ℕ) (g : Segment) (m : L3Message) (e : StateError) → book_refusal top b mem lent ≡ some e
-    → book_gate top b mem lent g m ≡ some (Unusable e)
+pub gate-stops : (top : ℕ) (b : BookReconstructor) (mem : Memory) (lent : ℕ) (g : Segment) (m : L3Message) (e : StateError) → book_refusal top b mem lent ≡ Some e
+    → book_gate top b mem lent g m ≡ Some (Unusable e)
 unfolding gate_refusal
 gate-stops top b mem lent g m e h = first-fails _ _ _ e h
 
@@ -53,11 +53,11 @@ trusted-ready b mem t =
     record { few = (sound b mem t.sound).few; room = memory-room b.rules mem t.room; small = orders-within most_rows b.rules t.within }
 
 -- a status that is let through is valid
-pub valid : (s : Status) → status_refusal s ≡ none → s ≡ Valid (last_of s)
+pub valid : (s : Status) → status_refusal s ≡ None → s ≡ Valid (last_of s)
 valid Empty h = let z : ◌≡◌ {A = ℕ} 0 1 = cc in absurd (omega arith)
 valid (Valid l) h = refl
 valid (Invalidated i) h = let z : ◌≡◌ {A = ℕ} 0 1 = cc in absurd (omega arith)
 
-pub admitted-valid : (p : ProductId) (s : Status) (m : L3Message) → admit_refusal p s m ≡ none → s ≡ Valid (last_of s)
+pub admitted-valid : (p : ProductId) (s : Status) (m : L3Message) → admit_refusal p s m ≡ None → s ≡ Valid (last_of s)
 unfolding admit_refusal
 admitted-valid p s m h = valid s (passed _ _ _ (passed _ _ _ h).1).1

@@ -1,6 +1,5 @@
 -- One message applied to a book: the answer, the state, the lent memory and the last segment's record afterwards, for every input.
-use Rattle.std.specs.Prelude.{ℕ, List, length}
-use Rattle.std.proofs.Math.Option.{Option, none, some}
+use Rattle.std.specs.Prelude.{ℕ, List, length, Option, Some, None}
 use Rattle.message.specs.declared.L3Message.{L3Message}
 use Rattle.book.specs.Memory.{Memory, orders_of, line_in, orders_by, memory_by}
 use Rattle.reconstructor_answers.specs.declared.Applied.{Applied}
@@ -108,16 +107,16 @@ next_segment g (answers.AwaitingSnapshot i) seq time = g
 
 -- a message whose turn it is: it ends the segment for that reason, or is accepted
 unfoldable pub decided : BookReconstructor → Memory → ℕ → L3Message → Option InvalidationKind → Core
-decided b mem last m (some k) = core (invalidated_reply b last m.sequence k) mem
-decided b mem last m none = accepted b mem m.sequence (event_deed b.rules (line_in mem b.rows) m.sequence m.event)
+decided b mem last m (Some k) = core (invalidated_reply b last m.sequence k) mem
+decided b mem last m None = accepted b mem m.sequence (event_deed b.rules (line_in mem b.rows) m.sequence m.event)
 
 abbrev pub at_turn : BookReconstructor → Memory → ℕ → L3Message → Core
 at_turn b mem last m = decided b mem last m (turn_refusal b.rules (line_in mem b.rows) last m)
 
 -- a message that is turned away before its turn, or let through
 unfoldable pub after_gate : BookReconstructor → Memory → Segment → L3Message → Option ApplyAnswer → Worked
-after_gate b mem g m (some a) = with_record (core (refused_reply b a) mem) g
-after_gate b mem g m none =
+after_gate b mem g m (Some a) = with_record (core (refused_reply b a) mem) g
+after_gate b mem g m None =
     with_record (at_turn b mem (last_of b.status) m) (next_segment g (at_turn b mem (last_of b.status) m).answer m.sequence m.time_us)
 
 -- any message, the last record being g, of a list of so many; the ceiling of the limits is an argument

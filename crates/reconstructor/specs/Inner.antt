@@ -1,6 +1,5 @@
 -- What the inner functions promise, by cases on their answers, and the work of a state that was tested before.
-use Rattle.std.specs.Prelude.{ℕ, ◌≡◌, List, length}
-use Rattle.std.proofs.Math.Option.{Option, none, some}
+use Rattle.std.specs.Prelude.{ℕ, ◌≡◌, List, length, Option, Some, None, Result, Ok, Err}
 use Rattle.message.specs.declared.L3Message.{L3Message}
 use Rattle.book.specs.Rows.{rows_of, stored}
 use Rattle.book.specs.Memory.{Memory, memory}
@@ -10,22 +9,19 @@ use Rattle.reconstructor_segments.specs.declared.Segment.{Segment}
 use Rattle.reconstructor_state.specs.declared.BookReconstructor.{BookReconstructor}
 use Rattle.reconstructor_plan.specs.Rules.{Deed}
 use Rattle.reconstructor_plan.specs.Plans.{PlanOutcome, deed_outcome, plan_outcome, PlanFits}
-use Rattle.reconstructor.specs.declared.Admitted.{Admitted}
-use Rattle.reconstructor.specs.declared.Admitted.TheVariants.{Go, Stop}
-use Rattle.reconstructor.specs.declared.Turn.{Turn}
-use Rattle.reconstructor.specs.declared.Turn.TheVariants.{Plan, Broken}
 use Rattle.reconstructor.specs.declared.Reply.{Reply}
 use Rattle.reconstructor.specs.declared.Work.{Work}
 use Rattle.reconstructor.specs.Refusals.{admit_refusal}
 use Rattle.reconstructor.specs.Applied.{Core, core, Worked, accepted_reply, after_gate}
+use Rattle.reconstructor_plan.specs.declared.Plan.{Plan}
 
-abbrev pub AdmitsFor : Option ApplyAnswer → ℕ → Admitted → Type 0
-AdmitsFor refusal last (Stop a) = refusal ≡ some a
-AdmitsFor refusal last (Go l) = (refusal ≡ none) × (l ≡ last)
+abbrev pub AdmitsFor : Option ApplyAnswer → ℕ → Result ℕ ApplyAnswer → Type 0
+AdmitsFor refusal last (Err a) = refusal ≡ Some a
+AdmitsFor refusal last (Ok l) = (refusal ≡ None) × (l ≡ last)
 
-abbrev pub TurnsFor : Option InvalidationKind → Deed → List ℕ → ℕ → Turn → Type 0
-TurnsFor refusal deed ws n (Broken k) = refusal ≡ some k
-TurnsFor refusal deed ws n (Plan p) = (refusal ≡ none) × (plan_outcome ws n p ≡ deed_outcome deed (rows_of ws n)) × PlanFits ws n p
+abbrev pub TurnsFor : Option InvalidationKind → Deed → List ℕ → ℕ → Result Plan InvalidationKind → Type 0
+TurnsFor refusal deed ws n (Err k) = refusal ≡ Some k
+TurnsFor refusal deed ws n (Ok p) = (refusal ≡ None) × (plan_outcome ws n p ≡ deed_outcome deed (rows_of ws n)) × PlanFits ws n p
 
 -- what an outcome leaves of the state and the rows
 unfoldable pub committed : BookReconstructor → List ℕ → ℕ → PlanOutcome → Core

@@ -1,6 +1,5 @@
 -- Why a message is turned away, over a view: the port's own checks 1, 2, 3, 5, then 10, 15, 17, then the sequence 22, 21, 20, then the event.
-use Rattle.std.specs.Prelude.{ℕ, ◌+◌, Bool, not, List, leb, ltb, eqb}
-use Rattle.std.proofs.Math.Option.{Option, none, some}
+use Rattle.std.specs.Prelude.{ℕ, ◌+◌, Bool, not, List, leb, ltb, eqb, Option, Some, None}
 use Rattle.message.specs.declared.ProductId.{ProductId}
 use Rattle.message.specs.declared.L3Message.{L3Message}
 use Rattle.message.specs.Values.{event_in_range}
@@ -21,9 +20,9 @@ use Rattle.reconstructor_plan.specs.Rules.{event_refusal}
 
 -- "no snapshot yet is 15; an invalid book is 17", which carries the invalidation in force
 abbrev pub status_refusal : Status → Option ApplyAnswer
-status_refusal Empty = some NotBootstrapped
-status_refusal (Valid last) = none
-status_refusal (Invalidated i) = some (AwaitingSnapshot i)
+status_refusal Empty = Some NotBootstrapped
+status_refusal (Valid last) = None
+status_refusal (Invalidated i) = Some (AwaitingSnapshot i)
 
 -- "After the port's own checks .. 5: another product is 10; no snapshot yet is 15; an invalid book is 17". 5: "a present amount out of range"
 unfoldable pub admit_refusal : ProductId → Status → L3Message → Option ApplyAnswer
@@ -40,4 +39,4 @@ unfoldable pub turn_refusal : VenueRules → List Entry → ℕ → L3Message �
 turn_refusal v l last m =
     check (eqb last largest) SequenceOverflow
     (check (leb m.sequence last) (OutOfOrderOrDuplicate last m.sequence)
-    (check (ltb (last + 1) m.sequence) (Gap (last + 1) m.sequence) (first (event_refusal v l m.event) Discrepancy none)))
+    (check (ltb (last + 1) m.sequence) (Gap (last + 1) m.sequence) (first (event_refusal v l m.event) Discrepancy None)))

@@ -1,8 +1,7 @@
 // One message applied to a book: what it leaves, the definitions, and laws. The crates named after `reconstructor_turn` and `reconstructor_apply` have the code.
 #![tactic(auto)]
 
-use reconstructor_answers::{ApplyAnswer, InvalidationKind};
-use reconstructor_plan::Plan;
+use reconstructor_answers::ApplyAnswer;
 use reconstructor_segments::Segment;
 use reconstructor_state::BookReconstructor;
 
@@ -19,18 +18,4 @@ pub struct Work {
     pub book: BookReconstructor,
     pub answer: ApplyAnswer,
     pub segment: Segment,
-}
-
-// Whether a message goes on to its turn in a valid book, or the answer that stops it.
-#[derive(Clone, Copy)]
-pub enum Admitted {
-    Go { last_seq: u64 },
-    Stop(ApplyAnswer),
-}
-
-// A plan, or why the message ends the segment.
-#[derive(Clone, Copy)]
-pub enum Turn {
-    Plan(Plan),
-    Broken(InvalidationKind),
 }

@@ -13,7 +13,6 @@ use reconstructor::Work;
 use reconstructor_answers::ApplyAnswer;
 use reconstructor_apply_parts::{refused, work_of};
 use reconstructor_apply_trusted::apply_trusted;
-use reconstructor_checks::Checked;
 use reconstructor_segments::Segment;
 use reconstructor_state::{BookReconstructor, VenueRules};
 
@@ -30,8 +29,8 @@ pub fn apply_under(
     ensures { worked result (memory rows.new) ≡ applied_to top book (memory rows.old) lent last message }
 {
     match reconstructor_checks::own_checks(top, book, rows, lent) {
-        Checked::Refused(why) => work_of(refused(book, ApplyAnswer::Unusable(why)), last),
-        Checked::Passed => apply_trusted(book, rows, last, message),
+        Err(why) => work_of(refused(book, ApplyAnswer::Unusable(why)), last),
+        Ok(()) => apply_trusted(book, rows, last, message),
     }
 }
 

@@ -8,7 +8,7 @@ ghost use Rattle.reconstructor.specs.Applied.{refused_reply, next_segment};
 ghost use Rattle.reconstructor.specs.Inner.{AdmitsFor};
 
 use message::L3Message;
-use reconstructor::{Admitted, Reply, Work};
+use reconstructor::{Reply, Work};
 use reconstructor_answers::ApplyAnswer;
 use reconstructor_counts::Counter;
 use reconstructor_segments::Segment;
@@ -48,25 +48,23 @@ pub fn refused(book: BookReconstructor, answer: ApplyAnswer) -> Reply
 }
 
 // What comes before the sequence in a state that passed 1, 2 and 3: 5, 10, 15, 17.
-pub fn admit(book: BookReconstructor, message: L3Message) -> Admitted
+pub fn admit(book: BookReconstructor, message: L3Message) -> Result<u64, ApplyAnswer>
     ensures { AdmitsFor (admit_refusal book.product_id book.status message) (last_of book.status) result }
 {
     let event = message.event;
     if !message_range::event_in_range(event) {
-        return Admitted::Stop(ApplyAnswer::AmountOutOfRange);
+        return Err(ApplyAnswer::AmountOutOfRange);
     }
     let expected = book.product_id;
     let got = message.product_id;
     if !message::same_product(got, expected) {
-        return Admitted::Stop(ApplyAnswer::WrongProduct);
+        return Err(ApplyAnswer::WrongProduct);
     }
     let status = book.status;
     match status {
-        Status::Empty => Admitted::Stop(ApplyAnswer::NotBootstrapped),
-        Status::Valid { last_seq } => Admitted::Go { last_seq },
-        Status::Invalidated(invalidation) => {
-            Admitted::Stop(ApplyAnswer::AwaitingSnapshot(invalidation))
-        }
+        Status::Empty => Err(ApplyAnswer::NotBootstrapped),
+        Status::Valid { last_seq } => Ok(last_seq),
+        Status::Invalidated(invalidation) => { Err(ApplyAnswer::AwaitingSnapshot(invalidation)) }
     }
 }
 

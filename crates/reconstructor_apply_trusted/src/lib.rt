@@ -12,7 +12,7 @@ ghost use Rattle.reconstructor.specs.Inner.{trusted_to};
 
 use book_index::Bounds;
 use message::L3Message;
-use reconstructor::{Admitted, Work};
+use reconstructor::Work;
 use reconstructor_apply_parts::{admit, next_segment, refused, work_of};
 use reconstructor_segments::Segment;
 use reconstructor_state::BookReconstructor;
@@ -33,8 +33,8 @@ pub fn apply_indexed(
     ensures { worked result (memory rows.new) ≡ trusted_to book (memory rows.old) last message }
 {
     match admit(book, message) {
-        Admitted::Stop(answer) => work_of(refused(book, answer), last),
-        Admitted::Go { last_seq } => {
+        Err(answer) => work_of(refused(book, answer), last),
+        Ok(last_seq) => {
             let reply = apply_valid(book, rows, places, bounds, last_seq, message);
             let answer = reply.answer;
             let segment = next_segment(last, answer, message.sequence, message.time_us);

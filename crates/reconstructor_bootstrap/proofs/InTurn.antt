@@ -1,10 +1,10 @@
 -- 11 to 14: what each turn of the search finds, that rows which number 3 does not name pass, and what a line that passes has.
 -- Assumes nothing.
+use Rattle.std.specs.Prelude.{Option, Some, None, Result, Ok, Err, ⊤}
 use Prim.Native.Nat.{ℕ, suc, ◌+◌, ◌-◌, ◌≤◌, ◌<◌}
 use mathlib.Core.Path.{◌≡◌, refl, sym, ap, ◌∙◌}
 use mathlib.Core.Bool.{Bool, true, false, not, ◌||◌, ◌&&◌, cond}
 use mathlib.Core.List.{List, [], ◌∷◌, ◌++◌, append_assoc, append-nil}
-use mathlib.Core.Option.{Option, none, some}
 use native.Mathlib.Nat.{sub-zero}
 use native.Mathlib.Omega.{arith}
 use borrow.Author.Tests.{ltb-true, ltb-false, lt-ltb, le-ltb, lt-leb, leb-false}
@@ -19,8 +19,6 @@ use Rattle.book.specs.Broken.{out_of_range, row_broken, some_row_broken, id_twic
 use Rattle.reconstructor_state.specs.Checks.{check}
 use Rattle.reconstructor_bootstrap.specs.declared.SnapshotError.{SnapshotError}
 use Rattle.reconstructor_bootstrap.specs.declared.SnapshotError.TheVariants.{DuplicateId, InvalidValue, Crossed, CapacityExceeded}
-use Rattle.reconstructor_bootstrap.specs.declared.Validated.{Validated}
-use Rattle.reconstructor_bootstrap.specs.declared.Validated.TheVariants.{Fits, Refused}
 use Rattle.reconstructor_bootstrap.specs.Snapshot.{not_positive, no_room, in_turn, line_refusal}
 use Rattle.reconstructor_bootstrap.specs.Bootstrap.{validated}
 use Rattle.laws.proofs.Bools.{or_no, or_both}
@@ -32,23 +30,23 @@ use Rattle.reconstructor_state.proofs.Checks.{goes_on, passed}
 
 -- ---- the answer, and what it tells
 
-pub says : {o : Option SnapshotError} {e : SnapshotError} → o ≡ some e → Refused e ≡ validated o
+pub says : {o : Option SnapshotError} {e : SnapshotError} → o ≡ Some e → Err e ≡ validated o
 unfolding validated
 says h = sym (ap validated h)
 
-pub says_none : {o : Option SnapshotError} → o ≡ none → Fits ≡ validated o
+pub says_none : {o : Option SnapshotError} → o ≡ None → (Ok tt) ≡ validated o
 unfolding validated
 says_none h = sym (ap validated h)
 
-pub said : (o : Option SnapshotError) (r : Validated) (e : SnapshotError) → r ≡ validated o → r ≡ Refused e → o ≡ some e
+pub said : (o : Option SnapshotError) (r : Result ⊤ SnapshotError) (e : SnapshotError) → r ≡ validated o → r ≡ Err e → o ≡ Some e
 unfolding validated
-said none r e p q = let z : ◌≡◌ {A = ℕ} 0 1 = cc in absurd (omega arith)
-said (some d) r e p q = cc
+said None r e p q = let z : ◌≡◌ {A = ℕ} 0 1 = cc in absurd (omega arith)
+said (Some d) r e p q = cc
 
-pub said-none : (o : Option SnapshotError) (r : Validated) → r ≡ validated o → r ≡ Fits → o ≡ none
+pub said-none : (o : Option SnapshotError) (r : Result ⊤ SnapshotError) → r ≡ validated o → r ≡ (Ok tt) → o ≡ None
 unfolding validated
-said-none none r p q = refl
-said-none (some d) r p q = let z : ◌≡◌ {A = ℕ} 0 1 = cc in absurd (omega arith)
+said-none None r p q = refl
+said-none (Some d) r p q = let z : ◌≡◌ {A = ℕ} 0 1 = cc in absurd (omega arith)
 
 -- ---- a line with one order more
 
@@ -74,7 +72,7 @@ rests-part d (x ∷ a) b h =
 
 -- what is left to ask after the last order
 abbrev pub last13 : List ℕ → ℕ → Option SnapshotError
-last13 rows n = check (crossed (line_of (rows_of rows n))) Crossed none
+last13 rows n = check (crossed (line_of (rows_of rows n))) Crossed None
 
 -- the search stands before row i of n
 abbrev pub Reached : ℕ → List ℕ → ℕ → ℕ → Type 0
@@ -141,7 +139,7 @@ line_in_range (o ∷ os) h =
     or_both _ _ (or_both _ _ (not_out o.price s.price) (not_out o.remaining s.remaining)) (line_in_range os d.1)
 
 -- rows that number 3 does not name pass
-pub unbroken-passes : (ml : ℕ) (os : List Resting) → rows_broken ml os ≡ false → line_refusal ml (line_of os) ≡ none
+pub unbroken-passes : (ml : ℕ) (os : List Resting) → rows_broken ml os ≡ false → line_refusal ml (line_of os) ≡ None
 unfolding line_refusal
 unbroken-passes ml os h =
     let a = or_no (some_row_broken os) (id_twice (line_of os) || (ltb ml (levels (line_of os)) || crossed (line_of os))) h in
@@ -156,12 +154,12 @@ some_not_positive [] = false
 some_not_positive (e ∷ l) = not_positive e || some_not_positive l
 
 pub record Passed (ml : ℕ) (before es : List Entry) (last : Option SnapshotError) : Type 0 where
-  pub end : last ≡ none
+  pub end : last ≡ None
   pub single : id_twice (before ++ es) ≡ false
   pub flat : levels (before ++ es) ≤ ml
   pub positive : some_not_positive es ≡ false
 
-pub has-passed : (ml : ℕ) (before es : List Entry) (last : Option SnapshotError) → in_turn ml before es last ≡ none → id_twice before ≡ false → levels before ≤ ml
+pub has-passed : (ml : ℕ) (before es : List Entry) (last : Option SnapshotError) → in_turn ml before es last ≡ None → id_twice before ≡ false → levels before ≤ ml
     → Passed ml before es last
 has-passed ml before [] last h s f = record { end = h; single = ap id_twice (append-nil before) ∙ s; flat = omega (arith, ap levels (append-nil before)); positive = refl }
 has-passed ml before (e ∷ es) last h s f =

@@ -1,18 +1,16 @@
 -- What a host may rely on: an accepted snapshot leaves a usable, well-formed book; a refused one leaves the book as it was.
 -- Assumes nothing.
+use Rattle.std.specs.Prelude.{Option, Some, None, Result, Ok, Err}
 use Prim.Native.Nat.{ℕ, zero, suc, ◌+◌, ◌*◌, ◌<◌}
 use mathlib.Core.Path.{◌≡◌, refl, sym, ap, ◌∙◌}
 use mathlib.Core.Bool.{Bool, true, false, cond, ◌&&◌}
 use mathlib.Core.List.{List, [], map}
-use mathlib.Core.Option.{Option, none, some}
 use native.Mathlib.Omega.{arith}
 use borrow.Author.Tests.{eqb-false, ne_eqb, le-ltb}
 use lib.Dec.{eqb}
 use lib.ListN.{length, set, length-map, length-set}
 use lib.Seq.{set_out}
 use Rattle.message.specs.declared.L3Snapshot.{L3Snapshot}
-use Rattle.piece.specs.declared.ReadSnapshot.{ReadSnapshot}
-use Rattle.piece.specs.declared.ReadSnapshot.TheVariants.{Snapshot, Refused}
 use Rattle.message.specs.Amounts.{nat_of}
 use Rattle.message.specs.Values.{amount_limit, in_range, order_in_range, orders_in_range}
 use Rattle.piece.specs.Piece.{bids_at, asks_at, snapshot_shaped, product_id_at, word_at, order_at, orders_from, snapshot_of, read_snapshot}
@@ -42,6 +40,7 @@ use Rattle.reconstructor_bootstrap.proofs.Places.{line-places}
 use Rattle.reconstructor_bootstrap.proofs.InTurn.{some_not_positive, has-passed}
 use Rattle.reconstructor_bootstrap.proofs.Whole.{few-orders, length-snapshot}
 use Rattle.piece.specs.declared.PieceError.TheVariants as pieces
+use Rattle.piece.specs.declared.PieceError.{PieceError}
 
 -- ---- number 5 and number 12: amounts of an accepted snapshot
 
@@ -60,7 +59,7 @@ ranged bids bytes i (suc k) h p =
     (or_both _ _ e.1 (le-ltb amount_limit (nat_of (order_at bytes i).size) (in_range_most (order_at bytes i).size b.1))))
     (ranged bids bytes (i + 1) k a.1 d.1)
 
-pub read-ranged : (bytes : List ℕ) (s : L3Snapshot) → read_snapshot bytes ≡ Snapshot s → orders_in_range (orders_from bytes 0 (s.bids + s.asks)) ≡ true
+pub read-ranged : (bytes : List ℕ) (s : L3Snapshot) → read_snapshot bytes ≡ Ok s → orders_in_range (orders_from bytes 0 (s.bids + s.asks)) ≡ true
 unfolding read_snapshot snapshot_of
 read-ranged bytes s h = go (snapshot_shaped bytes) (orders_in_range (orders_from bytes 0 (bids_at bytes + asks_at bytes))) refl h
   where
@@ -68,7 +67,7 @@ read-ranged bytes s h = go (snapshot_shaped bytes) (orders_in_range (orders_from
     found = record { product_id = product_id_at bytes 1; sequence = word_at bytes 17; bids = bids_at bytes; asks = asks_at bytes }
 
     go : (x y : Bool) → orders_in_range (orders_from bytes 0 (bids_at bytes + asks_at bytes)) ≡ y
-        → cond x (cond y (Snapshot found) (Refused pieces.OutOfRange)) (Refused pieces.NotAPiece) ≡ Snapshot s
+        → cond x (cond y (Ok found) (Err pieces.OutOfRange)) (Err pieces.NotAPiece) ≡ Ok s
         → orders_in_range (orders_from bytes 0 (s.bids + s.asks)) ≡ true
     go false y e q = let z : ◌≡◌ {A = ℕ} 0 1 = cc in absurd (omega arith)
     go true false e q = let z : ◌≡◌ {A = ℕ} 0 1 = cc in absurd (omega arith)
@@ -78,8 +77,8 @@ read-ranged bytes s h = go (snapshot_shaped bytes) (orders_in_range (orders_from
 
 -- ---- 10 to 14
 
-fits : (bytes : List ℕ) (s : L3Snapshot) (b : BookReconstructor) → read_snapshot bytes ≡ Snapshot s
-    → snapshot_refusal b.product_id b.rules s (snapshot_line s bytes) ≡ none
+fits : (bytes : List ℕ) (s : L3Snapshot) (b : BookReconstructor) → read_snapshot bytes ≡ Ok s
+    → snapshot_refusal b.product_id b.rules s (snapshot_line s bytes) ≡ None
     → SnapshotFits b.rules.max_orders b.rules.max_levels (snapshot_line s bytes)
 unfolding snapshot_refusal line_refusal
 fits bytes s b r h =
@@ -108,7 +107,7 @@ accepted_parts b mem sg sequence line = put_back sg b.segments (accepted b mem (
 -- a snapshot that meets no number
 pub record Accepted (top : ℕ) (b : BookReconstructor) (mem : Memory) (sg : List Segment) (bytes : List ℕ) : Type 0 where
   pub snapshot : L3Snapshot
-  pub read : read_snapshot bytes ≡ Snapshot snapshot
+  pub read : read_snapshot bytes ≡ Ok snapshot
   pub is : bootstrapped top b mem sg bytes ≡ accepted_parts b mem sg snapshot.sequence (snapshot_line snapshot bytes)
   pub before : Usable top b mem (length sg)
   pub room : b.segments < length sg
@@ -124,33 +123,33 @@ module _ (top : ℕ) (b : BookReconstructor) (mem : Memory) (sg : List Segment) 
   unfolding bootstrapped bootstrapped_to
   settles o h = ap (λ x. put_back sg b.segments (unless_refused x b mem (length sg) last (taken (read_snapshot bytes) b mem (length sg) last bytes))) h
 
-  pub is-accepted : refusal_of top b mem sg bytes ≡ none → Accepted top b mem sg bytes
+  pub is-accepted : refusal_of top b mem sg bytes ≡ None → Accepted top b mem sg bytes
   unfolding boot_refusal accept_refusal
   is-accepted h = go (read_snapshot bytes) refl (first-passed _ _ _ h).1
     where
-      own : book_refusal top b mem (length sg) ≡ none
+      own : book_refusal top b mem (length sg) ≡ None
       own = (first-passed _ _ _ h).0
 
       u : Usable top b mem (length sg)
       u = usable top b mem (length sg) own
 
-      go : (r : ReadSnapshot) → read_snapshot bytes ≡ r → piece_refusal b.product_id b.rules (lengths_with mem (length sg)) (view_with b mem last) r bytes ≡ none → Accepted top b mem sg bytes
-      go (Refused e) q k = let z : ◌≡◌ {A = ℕ} 0 1 = cc in absurd (omega arith)
-      go (Snapshot s) q k =
+      go : (r : Result L3Snapshot PieceError) → read_snapshot bytes ≡ r → piece_refusal b.product_id b.rules (lengths_with mem (length sg)) (view_with b mem last) r bytes ≡ None → Accepted top b mem sg bytes
+      go (Err e) q k = let z : ◌≡◌ {A = ℕ} 0 1 = cc in absurd (omega arith)
+      go (Ok s) q k =
           let full = passed _ _ _ k in
           let vetted = first-passed _ _ _ full.1 in
           let differ : length sg ≡ b.segments → ⊥ = eqb-false (length sg) b.segments full.0 in
           record {
             snapshot = s;
             read = q;
-            is = settles none h ∙ ap (λ r. put_back sg b.segments (taken r b mem (length sg) last bytes)) q;
+            is = settles None h ∙ ap (λ r. put_back sg b.segments (taken r b mem (length sg) last bytes)) q;
             before = u;
             room = omega (arith, differ, segments-lent b mem (length sg) u.lent);
             fits = fits bytes s b q vetted.0;
           }
 
   -- the state, with what it is lent, passes 1, 2 and 3 at the next call
-  pub accepted-usable : refusal_of top b mem sg bytes ≡ none
+  pub accepted-usable : refusal_of top b mem sg bytes ≡ None
       → Usable top (bootstrapped top b mem sg bytes).book (bootstrapped top b mem sg bytes).memory (length (bootstrapped top b mem sg bytes).segments)
   accepted-usable h =
       let a = is-accepted h in
@@ -184,14 +183,14 @@ counts_alone AmountOutOfRange b = refl
 counts_alone ListFull b = refl
 counts_alone (Rejected e) b = refl
 
-module _ (top : ℕ) (b : BookReconstructor) (mem : Memory) (sg : List Segment) (bytes : List ℕ) (x : SnapshotAnswer) (h : refusal_of top b mem sg bytes ≡ some x) where
+module _ (top : ℕ) (b : BookReconstructor) (mem : Memory) (sg : List Segment) (bytes : List ℕ) (x : SnapshotAnswer) (h : refusal_of top b mem sg bytes ≡ Some x) where
   -- the last record rewritten with itself, and one past the end, leave the list
   same : set (relast sg b.segments (last_segment sg b.segments)) (length sg) no_segment ≡ sg
   same = ap (λ l. set l (length sg) no_segment) (relast-same sg b.segments) ∙ set_out sg (length sg) no_segment (omega arith)
 
   -- 01, bootstrap: "leave all else; a valid book stays valid"
   pub refused_is : bootstrapped top b mem sg bytes ≡ record { answer = x; book = refused_book x b; memory = mem; segments = sg }
-  refused_is = settles top b mem sg bytes (some x) h ∙ ap (λ (l : List Segment). record { answer = x; book = refused_book x b; memory = mem; segments = l }) same
+  refused_is = settles top b mem sg bytes (Some x) h ∙ ap (λ (l : List Segment). record { answer = x; book = refused_book x b; memory = mem; segments = l }) same
 
   -- a usable state stays usable
   pub refused-usable : Usable top b mem (length sg)

@@ -1,16 +1,15 @@
 -- The work put together: what each way through the code comes to.
 -- Assumes nothing.
+use Rattle.std.specs.Prelude.{Option, Some, None, Ok, Err}
 use Prim.Native.Nat.{ℕ, ◌+◌, ◌≤◌, ◌<◌}
 use mathlib.Core.Path.{◌≡◌, refl, ap, ◌∙◌}
 use mathlib.Core.List.{List}
-use mathlib.Core.Option.{Option, none, some}
 use native.Mathlib.Omega.{arith}
 use borrow.Author.Tests.{ltb-false, eq-eqb, ne_eqb}
 use lib.ListN.{length}
 use Rattle.message.specs.declared.ProductId.{ProductId}
 use Rattle.message.specs.declared.L3Snapshot.{L3Snapshot}
 use Rattle.piece.specs.declared.PieceError.{PieceError}
-use Rattle.piece.specs.declared.ReadSnapshot.TheVariants.{Snapshot, Refused}
 use Rattle.piece.specs.Piece.{read_snapshot}
 use Rattle.book.specs.Line.{Entry}
 use Rattle.book.specs.Rows.{most_rows, rows_of, line_of, stored}
@@ -50,15 +49,15 @@ pub booted_path : {a b : Booted} → a.answer ≡ b.answer → a.book ≡ b.book
 booted_path p q r s t u = λ k. record { answer = p k; book = q k; memory = r k; segment = s k; at = t k; started = u k }
 
 module _ {o : Option SnapshotAnswer} (b : BookReconstructor) (mem : Memory) (lent : ℕ) (g : Segment) (p : Booted) where
-  settled-some : {a : SnapshotAnswer} → o ≡ some a → booted (refused_work a b lent g) mem ≡ unless_refused o b mem lent g p
+  settled-some : {a : SnapshotAnswer} → o ≡ Some a → booted (refused_work a b lent g) mem ≡ unless_refused o b mem lent g p
   settled-some e = rw e
 
-  settled-none : o ≡ none → p ≡ unless_refused o b mem lent g p
+  settled-none : o ≡ None → p ≡ unless_refused o b mem lent g p
   settled-none e = rw e
 
 -- ---- 6, 10 to 14
 
-pub few-orders : (product : ProductId) (v : VenueRules) (s : L3Snapshot) (line : List Entry) → snapshot_refusal product v s line ≡ none → s.bids + s.asks ≤ v.max_orders
+pub few-orders : (product : ProductId) (v : VenueRules) (s : L3Snapshot) (line : List Entry) → snapshot_refusal product v s line ≡ None → s.bids + s.asks ≤ v.max_orders
 unfolding snapshot_refusal
 few-orders product v s line h = ltb-false v.max_orders (s.bids + s.asks) (passed _ _ _ (passed _ _ _ h).1).0
 
@@ -68,11 +67,11 @@ module _ (b : BookReconstructor) (mem : Memory) (lent : ℕ) (g : Segment) (byte
   list_full h = settled-some b mem lent g _ (fails _ _ _ (eq-eqb lent b.segments h))
 
   module _ (h : lent ≡ b.segments → ⊥) where
-    pub snapshot-refused : (e : SnapshotError) → snapshot_refusal b.product_id b.rules s (snapshot_line s bytes) ≡ some e → booted (refused_work (Rejected e) b lent g) mem ≡ usable_to b mem lent g bytes s
+    pub snapshot-refused : (e : SnapshotError) → snapshot_refusal b.product_id b.rules s (snapshot_line s bytes) ≡ Some e → booted (refused_work (Rejected e) b lent g) mem ≡ usable_to b mem lent g bytes s
     unfolding accept_refusal
     snapshot-refused e q = settled-some b mem lent g _ (goes_on _ _ _ _ (ne_eqb lent b.segments h) (first-fails _ _ _ e q))
 
-    pub snapshot-fits : snapshot_refusal b.product_id b.rules s (snapshot_line s bytes) ≡ none → accepted b mem g s.sequence (snapshot_line s bytes) ≡ usable_to b mem lent g bytes s
+    pub snapshot-fits : snapshot_refusal b.product_id b.rules s (snapshot_line s bytes) ≡ None → accepted b mem g s.sequence (snapshot_line s bytes) ≡ usable_to b mem lent g bytes s
     unfolding accept_refusal
     snapshot-fits q = settled-none b mem lent g _ (goes_on _ _ _ _ (ne_eqb lent b.segments h) (first_on _ _ _ _ q refl))
 
@@ -92,15 +91,15 @@ module _ (b : BookReconstructor) (mem : Memory) (lent : ℕ) (u : Usable most_ro
 -- ---- the whole
 
 module _ (top : ℕ) (b : BookReconstructor) (mem : Memory) (lent : ℕ) (g : Segment) (bytes : List ℕ) where
-  pub unusable : (e : StateError) → book_refusal top b mem lent ≡ some e → booted (refused_work (Unusable e) b lent g) mem ≡ bootstrapped_to top b mem lent g bytes
+  pub unusable : (e : StateError) → book_refusal top b mem lent ≡ Some e → booted (refused_work (Unusable e) b lent g) mem ≡ bootstrapped_to top b mem lent g bytes
   unfolding bootstrapped_to boot_refusal
   unusable e h = settled-some b mem lent g _ (first-fails _ _ _ e h)
 
-  module _ (h : book_refusal top b mem lent ≡ none) where
-    pub not-read : (e : PieceError) → read_snapshot bytes ≡ Refused e → booted (refused_work (piece_answer e) b lent g) mem ≡ bootstrapped_to top b mem lent g bytes
+  module _ (h : book_refusal top b mem lent ≡ None) where
+    pub not-read : (e : PieceError) → read_snapshot bytes ≡ Err e → booted (refused_work (piece_answer e) b lent g) mem ≡ bootstrapped_to top b mem lent g bytes
     unfolding bootstrapped_to boot_refusal
     not-read e q = settled-some b mem lent g _ (first_on _ _ _ _ h (ap (λ r. piece_refusal b.product_id b.rules (lengths_with mem lent) (view_with b mem g) r bytes) q))
 
-    pub read : (s : L3Snapshot) → read_snapshot bytes ≡ Snapshot s → usable_to b mem lent g bytes s ≡ bootstrapped_to top b mem lent g bytes
+    pub read : (s : L3Snapshot) → read_snapshot bytes ≡ Ok s → usable_to b mem lent g bytes s ≡ bootstrapped_to top b mem lent g bytes
     unfolding bootstrapped_to boot_refusal
     read s q = rw (q, first_on _ Unusable _ _ h refl)

@@ -1,8 +1,5 @@
 -- What `bootstrap` answers and leaves: the state, the memory and the segment records, for every input.
-use Rattle.std.specs.Prelude.{ℕ, ◌+◌, List, length, set}
-use Rattle.std.proofs.Math.Option.{Option, none, some}
-use Rattle.piece.specs.declared.ReadSnapshot.{ReadSnapshot}
-use Rattle.piece.specs.declared.ReadSnapshot.TheVariants.{Snapshot, Refused}
+use Rattle.std.specs.Prelude.{ℕ, ◌+◌, List, length, set, Option, Some, None, Result, Ok, Err, ⊤}
 use Rattle.piece.specs.Piece.{read_snapshot}
 use Rattle.book.specs.Line.{Entry}
 use Rattle.book.specs.Memory.{Memory, snapshot, memory_by}
@@ -20,9 +17,9 @@ use Rattle.reconstructor_bootstrap.specs.declared.SnapshotAnswer.{SnapshotAnswer
 use Rattle.reconstructor_bootstrap.specs.declared.SnapshotAnswer.TheVariants.{Bootstrapped, Unusable, NotAPiece, AmountOutOfRange, ListFull, Rejected}
 use Rattle.reconstructor_bootstrap.specs.declared.Reply.{Reply}
 use Rattle.reconstructor_bootstrap.specs.declared.Work.{Work}
-use Rattle.reconstructor_bootstrap.specs.declared.Validated.{Validated}
-use Rattle.reconstructor_bootstrap.specs.declared.Validated.TheVariants as validations
 use Rattle.reconstructor_bootstrap.specs.Snapshot.{snapshot_line, piece_answer, boot_refusal}
+use Rattle.message.specs.declared.L3Snapshot.{L3Snapshot}
+use Rattle.piece.specs.declared.PieceError.{PieceError}
 
 -- ---- what a call leaves
 
@@ -111,13 +108,13 @@ accepted b mem g sequence line =
 
 -- a refusal, or else what is taken
 abbrev pub unless_refused : Option SnapshotAnswer → BookReconstructor → Memory → ℕ → Segment → Booted → Booted
-unless_refused (some a) b mem lent g p = booted (refused_work a b lent g) mem
-unless_refused none b mem lent g p = p
+unless_refused (Some a) b mem lent g p = booted (refused_work a b lent g) mem
+unless_refused None b mem lent g p = p
 
 -- bytes that are no snapshot have met 4 or 5 before
-abbrev pub taken : ReadSnapshot → BookReconstructor → Memory → ℕ → Segment → List ℕ → Booted
-taken (Refused e) b mem lent g bytes = booted (refused_work (piece_answer e) b lent g) mem
-taken (Snapshot s) b mem lent g bytes = accepted b mem g s.sequence (snapshot_line s bytes)
+abbrev pub taken : Result L3Snapshot PieceError → BookReconstructor → Memory → ℕ → Segment → List ℕ → Booted
+taken (Err e) b mem lent g bytes = booted (refused_work (piece_answer e) b lent g) mem
+taken (Ok s) b mem lent g bytes = accepted b mem g s.sequence (snapshot_line s bytes)
 
 -- the last record being g, of a list of so many; the ceiling of the limits is an argument
 unfoldable pub bootstrapped_to : ℕ → BookReconstructor → Memory → ℕ → Segment → List ℕ → Booted
@@ -132,6 +129,6 @@ bootstrapped top b mem sg bytes = put_back sg b.segments (bootstrapped_to top b 
 
 -- ---- the answer of the validation
 
-unfoldable pub validated : Option SnapshotError → Validated
-validated none = validations.Fits
-validated (some e) = validations.Refused e
+unfoldable pub validated : Option SnapshotError → Result ⊤ SnapshotError
+validated None = Ok tt
+validated (Some e) = Err e

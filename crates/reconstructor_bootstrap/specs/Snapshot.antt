@@ -1,7 +1,6 @@
 -- The rules of a snapshot. 01, bootstrap: "Checks 1, 2, 3, 4, 5, 6, 10, 14 (orders), then each bid and then each ask in turn: 11, 12, 14 (levels);
 -- last 13."
-use Rattle.std.specs.Prelude.{ℕ, ◌+◌, Bool, not, ◌||◌, ◌&&◌, List, [], ◌∷◌, ◌++◌, map, eqb, ltb, leb}
-use Rattle.std.proofs.Math.Option.{Option, none, some}
+use Rattle.std.specs.Prelude.{ℕ, ◌+◌, Bool, not, ◌||◌, ◌&&◌, List, [], ◌∷◌, ◌++◌, map, eqb, ltb, leb, Option, Some, None, Result, Ok, Err}
 use Rattle.message.specs.declared.L3Side.{L3Side}
 use Rattle.message.specs.declared.L3Side.TheVariants.{Buy, Sell}
 use Rattle.message.specs.declared.ProductId.{ProductId}
@@ -9,8 +8,6 @@ use Rattle.message.specs.declared.SnapshotOrder.{SnapshotOrder}
 use Rattle.message.specs.declared.L3Snapshot.{L3Snapshot}
 use Rattle.piece.specs.declared.PieceError.{PieceError}
 use Rattle.piece.specs.declared.PieceError.TheVariants as pieces
-use Rattle.piece.specs.declared.ReadSnapshot.{ReadSnapshot}
-use Rattle.piece.specs.declared.ReadSnapshot.TheVariants.{Snapshot, Refused}
 use Rattle.message.specs.Same.{same_product}
 use Rattle.message.specs.Amounts.{nat_of}
 use Rattle.piece.specs.Piece.{orders_from, read_snapshot}
@@ -55,7 +52,7 @@ in_turn max_levels before (e ∷ es) last =
 
 -- 11 to 14 of the orders; "last 13": "snapshot bid ≥ ask"
 unfoldable pub line_refusal : ℕ → List Entry → Option SnapshotError
-line_refusal max_levels line = in_turn max_levels [] line (check (crossed line) Crossed none)
+line_refusal max_levels line = in_turn max_levels [] line (check (crossed line) Crossed None)
 
 -- 10: "other product"; 14, of orders: "snapshot above a limit"; then the orders
 unfoldable pub snapshot_refusal : ProductId → VenueRules → L3Snapshot → List Entry → Option SnapshotError
@@ -73,11 +70,11 @@ piece_answer pieces.OutOfRange = AmountOutOfRange
 -- 6: "list length equals its count"; then 10 to 14
 unfoldable pub accept_refusal : ProductId → VenueRules → Lengths → View → L3Snapshot → List Entry → Option SnapshotAnswer
 accept_refusal product v lent w s line =
-    check (eqb lent.segments w.segments) ListFull (first (snapshot_refusal product v s line) Rejected none)
+    check (eqb lent.segments w.segments) ListFull (first (snapshot_refusal product v s line) Rejected None)
 
-abbrev pub piece_refusal : ProductId → VenueRules → Lengths → View → ReadSnapshot → List ℕ → Option SnapshotAnswer
-piece_refusal product v lent w (Refused e) bytes = some (piece_answer e)
-piece_refusal product v lent w (Snapshot s) bytes = accept_refusal product v lent w s (snapshot_line s bytes)
+abbrev pub piece_refusal : ProductId → VenueRules → Lengths → View → Result L3Snapshot PieceError → List ℕ → Option SnapshotAnswer
+piece_refusal product v lent w (Err e) bytes = Some (piece_answer e)
+piece_refusal product v lent w (Ok s) bytes = accept_refusal product v lent w s (snapshot_line s bytes)
 
 -- all of them, over a view; `three` says whether number 3 arises
 unfoldable pub boot_refusal : ℕ → ProductId → VenueRules → Lengths → Bool → View → List ℕ → Option SnapshotAnswer

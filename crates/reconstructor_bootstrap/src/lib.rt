@@ -35,13 +35,6 @@ pub enum SnapshotAnswer {
     Rejected(SnapshotError),
 }
 
-// What a validation finds.
-#[derive(Clone, Copy)]
-pub enum Validated {
-    Fits,
-    Refused(SnapshotError),
-}
-
 // What a call leaves of the state, with its answer.
 #[derive(Clone, Copy)]
 pub struct Reply {

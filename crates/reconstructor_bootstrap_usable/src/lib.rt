@@ -11,7 +11,7 @@ ghost use Rattle.reconstructor_bootstrap.specs.Bootstrap.{booted, accepted};
 ghost use Rattle.reconstructor_bootstrap.specs.Places.{Room, usable_to};
 
 use message::L3Snapshot;
-use reconstructor_bootstrap::{SnapshotAnswer, Validated, Work};
+use reconstructor_bootstrap::{SnapshotAnswer, Work};
 use reconstructor_bootstrap_parts::{booted_book, close_last, refused};
 use reconstructor_segments::Segment;
 use reconstructor_snapshot::{store_rows, validate_snapshot};
@@ -62,7 +62,7 @@ pub fn bootstrap_usable(
     let product = book.product_id;
     let rules = book.rules;
     match validate_snapshot(product, rules, bytes, snapshot) {
-        Validated::Fits => accept(book, rows, last, bytes, snapshot),
-        Validated::Refused(error) => refused(book, SnapshotAnswer::Rejected(error), lent, last),
+        Ok(()) => accept(book, rows, last, bytes, snapshot),
+        Err(error) => refused(book, SnapshotAnswer::Rejected(error), lent, last),
     }
 }

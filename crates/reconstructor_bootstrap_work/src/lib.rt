@@ -8,11 +8,9 @@ ghost use Rattle.book.specs.Memory.{memory};
 ghost use Rattle.reconstructor_state.specs.State.{ceiling};
 ghost use Rattle.reconstructor_bootstrap.specs.Bootstrap.{booted, bootstrapped_to};
 
-use piece::ReadSnapshot;
 use reconstructor_bootstrap::{SnapshotAnswer, Work};
 use reconstructor_bootstrap_parts::{piece_answer, refused};
 use reconstructor_bootstrap_usable::bootstrap_usable;
-use reconstructor_checks::Checked;
 use reconstructor_segments::Segment;
 use reconstructor_state::{BookReconstructor, VenueRules};
 
@@ -29,14 +27,12 @@ pub fn bootstrap_under(
     ensures { booted result (memory rows.new) ≡ bootstrapped_to top book (memory rows.old) lent last bytes.now }
 {
     let checked = reconstructor_checks::own_checks(top, book, rows, lent);
-    if let Checked::Refused(why) = checked {
+    if let Err(why) = checked {
         return refused(book, SnapshotAnswer::Unusable(why), lent, last);
     }
     match piece_snapshots::read_snapshot(bytes) {
-        ReadSnapshot::Snapshot(snapshot) => {
-            bootstrap_usable(book, rows, lent, last, bytes, snapshot)
-        }
-        ReadSnapshot::Refused(error) => refused(book, piece_answer(error), lent, last),
+        Ok(snapshot) => { bootstrap_usable(book, rows, lent, last, bytes, snapshot) }
+        Err(error) => refused(book, piece_answer(error), lent, last),
     }
 }
 

@@ -1,10 +1,10 @@
 -- What a state that passed 1, 2 and 3 has.
 -- Assumes nothing.
+use Rattle.std.specs.Prelude.{Option, Some, None, Result, Ok, Err, ⊤}
 use Prim.Native.Nat.{ℕ, ◌*◌, ◌≤◌, ◌<◌}
 use mathlib.Core.Path.{◌≡◌, refl, sym, ap, ◌∙◌}
 use mathlib.Core.Bool.{false, ◌||◌}
 use mathlib.Core.List.{List}
-use mathlib.Core.Option.{Option, none, some}
 use native.Mathlib.Omega.{arith}
 use borrow.Author.Tests.{ltb-false, eqb-false, le-ltb}
 use lib.Dec.{ltb}
@@ -18,8 +18,6 @@ use Rattle.reconstructor_state.specs.declared.Status.TheVariants.{Valid}
 use Rattle.reconstructor_answers.specs.declared.StateError.{StateError}
 use Rattle.reconstructor_state.specs.declared.BookReconstructor.{BookReconstructor}
 use Rattle.reconstructor_state.specs.State.{lengths_with}
-use Rattle.reconstructor_checks.specs.declared.Checked.{Checked}
-use Rattle.reconstructor_checks.specs.declared.Checked.TheVariants.{Passed, Refused}
 use Rattle.reconstructor_checks.specs.StateChecks.{over_ceiling, memory_short, too_short, unsettled, broken, state_refusal, book_refusal, checked, Usable, Trusted}
 use Rattle.laws.proofs.Bools.{or_no, or_both}
 use Rattle.book.proofs.Rows.{length-rows}
@@ -28,23 +26,23 @@ use Rattle.reconstructor_state.proofs.Checks.{passed, goes_on}
 
 -- ---- the answer, and what it tells
 
-pub says : {o : Option StateError} {e : StateError} → o ≡ some e → Refused e ≡ checked o
+pub says : {o : Option StateError} {e : StateError} → o ≡ Some e → Err e ≡ checked o
 unfolding checked
 says h = sym (ap checked h)
 
-pub says_none : {o : Option StateError} → o ≡ none → Passed ≡ checked o
+pub says_none : {o : Option StateError} → o ≡ None → (Ok tt) ≡ checked o
 unfolding checked
 says_none h = sym (ap checked h)
 
-pub said : (o : Option StateError) (r : Checked) (e : StateError) → r ≡ checked o → r ≡ Refused e → o ≡ some e
+pub said : (o : Option StateError) (r : Result ⊤ StateError) (e : StateError) → r ≡ checked o → r ≡ Err e → o ≡ Some e
 unfolding checked
-said none r e p q = let z : ◌≡◌ {A = ℕ} 0 1 = cc in absurd (omega arith)
-said (some d) r e p q = cc
+said None r e p q = let z : ◌≡◌ {A = ℕ} 0 1 = cc in absurd (omega arith)
+said (Some d) r e p q = cc
 
-pub said-none : (o : Option StateError) (r : Checked) → r ≡ checked o → r ≡ Passed → o ≡ none
+pub said-none : (o : Option StateError) (r : Result ⊤ StateError) → r ≡ checked o → r ≡ (Ok tt) → o ≡ None
 unfolding checked
-said-none none r p q = refl
-said-none (some d) r p q = let z : ◌≡◌ {A = ℕ} 0 1 = cc in absurd (omega arith)
+said-none None r p q = refl
+said-none (Some d) r p q = let z : ◌≡◌ {A = ℕ} 0 1 = cc in absurd (omega arith)
 
 -- ---- one check after the other
 
@@ -102,7 +100,7 @@ kept b mem os e n w u =
 
 -- ---- the whole
 
-pub usable : (top : ℕ) (b : BookReconstructor) (mem : Memory) (lent : ℕ) → book_refusal top b mem lent ≡ none → Usable top b mem lent
+pub usable : (top : ℕ) (b : BookReconstructor) (mem : Memory) (lent : ℕ) → book_refusal top b mem lent ≡ None → Usable top b mem lent
 unfolding state_refusal
 usable top b mem lent h =
     let h₁ = passed _ _ _ h in
@@ -110,7 +108,7 @@ usable top b mem lent h =
     let h₃ = passed _ _ _ h₂.1 in
     record { within = h₁.0; lent = h₂.0; sound = h₃.0 }
 
-pub usable-none : (top : ℕ) (b : BookReconstructor) (mem : Memory) (lent : ℕ) → Usable top b mem lent → book_refusal top b mem lent ≡ none
+pub usable-none : (top : ℕ) (b : BookReconstructor) (mem : Memory) (lent : ℕ) → Usable top b mem lent → book_refusal top b mem lent ≡ None
 unfolding state_refusal
 usable-none top b mem lent u = goes_on _ _ _ _ u.within (goes_on _ _ _ _ u.lent (goes_on _ _ _ _ u.sound refl))
 

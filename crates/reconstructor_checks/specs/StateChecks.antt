@@ -1,6 +1,5 @@
 -- The port's own checks of a state: 1, 2 and 3.
-use Rattle.std.specs.Prelude.{ℕ, ◌*◌, ◌≡◌, Bool, false, ◌||◌, eqb, ltb}
-use Rattle.std.proofs.Math.Option.{Option, none, some}
+use Rattle.std.specs.Prelude.{ℕ, ◌*◌, ◌≡◌, Bool, false, ◌||◌, eqb, ltb, Option, Some, None, Result, Ok, Err, ⊤}
 use Rattle.book.specs.Rows.{row_words}
 use Rattle.book.specs.Memory.{Memory, Extent, extent_of, orders_of}
 use Rattle.book.specs.Broken.{rows_broken}
@@ -12,8 +11,6 @@ use Rattle.reconstructor_answers.specs.declared.StateError.TheVariants.{LimitAbo
 use Rattle.reconstructor_state.specs.declared.BookReconstructor.{BookReconstructor}
 use Rattle.reconstructor_state.specs.Checks.{check}
 use Rattle.reconstructor_state.specs.State.{Lengths, lengths_with}
-use Rattle.reconstructor_checks.specs.declared.Checked.{Checked}
-use Rattle.reconstructor_checks.specs.declared.Checked.TheVariants.{Passed, Refused}
 
 -- 1: "an order or level limit above 4,096", the ceiling being an argument
 abbrev pub over_ceiling : ℕ → VenueRules → Bool
@@ -42,15 +39,15 @@ broken b mem =
 -- 1, 2, 3 of a book with so many segments; `three` says whether number 3 arises, which takes more than the rules go by
 unfoldable pub state_refusal : ℕ → VenueRules → Lengths → Bool → ℕ → Option StateError
 state_refusal top v lent three segments =
-    check (over_ceiling top v) LimitAboveCeiling (check (too_short v lent segments) LentTooShort (check three MalformedBook none))
+    check (over_ceiling top v) LimitAboveCeiling (check (too_short v lent segments) LentTooShort (check three MalformedBook None))
 
 -- of a state with lent memory and a lent list of so many records
 abbrev pub book_refusal : ℕ → BookReconstructor → Memory → ℕ → Option StateError
 book_refusal top b mem lent = state_refusal top b.rules (lengths_with mem lent) (broken b mem) b.segments
 
-unfoldable pub checked : Option StateError → Checked
-checked none = Passed
-checked (some e) = Refused e
+unfoldable pub checked : Option StateError → Result ⊤ StateError
+checked None = Ok tt
+checked (Some e) = Err e
 
 -- a state that passes 1, 2 and 3
 pub record Usable (top : ℕ) (b : BookReconstructor) (mem : Memory) (records : ℕ) : Type 0 where

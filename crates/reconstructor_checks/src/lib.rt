@@ -9,13 +9,6 @@ ghost use Rattle.reconstructor_checks.specs.StateChecks.{over_ceiling, memory_sh
 use reconstructor_answers::StateError;
 use reconstructor_state::{BookReconstructor, Status, VenueRules};
 
-// The answer of the own checks.
-#[derive(Clone, Copy)]
-pub enum Checked {
-    Passed,
-    Refused(StateError),
-}
-
 // Number 1, under a ceiling.
 pub fn over_ceiling(top: usize, rules: VenueRules) -> bool
     ensures { result ≡ over_ceiling top rules }
@@ -60,19 +53,24 @@ pub fn broken(book: BookReconstructor, rows: &[u64]) -> bool
 }
 
 // 1, 2 and 3 of a call under a ceiling, which is lent rows and a segment list of `lent` records.
-pub fn own_checks(top: usize, book: BookReconstructor, rows: &[u64], lent: usize) -> Checked
+pub fn own_checks(
+    top: usize,
+    book: BookReconstructor,
+    rows: &[u64],
+    lent: usize,
+) -> Result<(), StateError>
     requires { top ≤ most_rows }
     ensures { result ≡ checked (book_refusal top book (memory rows.now) lent) }
 {
     let rules = book.rules;
     if over_ceiling(top, rules) {
-        return Checked::Refused(StateError::LimitAboveCeiling);
+        return Err(StateError::LimitAboveCeiling);
     }
     if memory_short(rules, rows) | (lent < book.segments) {
-        return Checked::Refused(StateError::LentTooShort);
+        return Err(StateError::LentTooShort);
     }
     if broken(book, rows) {
-        return Checked::Refused(StateError::MalformedBook);
+        return Err(StateError::MalformedBook);
     }
-    Checked::Passed
+    Ok(())
 }

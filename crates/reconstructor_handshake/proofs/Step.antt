@@ -1,10 +1,10 @@
 -- A step, case by case, by value and on a list.
 -- Assumes nothing.
+use Rattle.std.specs.Prelude.{Option, Some, None}
 use Prim.Native.Nat.{ℕ}
 use mathlib.Core.Path.{◌≡◌, refl, ap, ◌∙◌}
 use mathlib.Core.Bool.{true, false, not, cond}
 use mathlib.Core.List.{List}
-use mathlib.Core.Option.{Option, none, some}
 use lib.ListN.{length}
 use Rattle.message.specs.declared.L3Message.{L3Message}
 use Rattle.message.specs.Values.{event_in_range}
@@ -37,11 +37,11 @@ module _ (top : ℕ) (h : Handshake) (b : BookReconstructor) (mem : Memory) (len
   abbrev refusal : Option StepAnswer
   refusal = step_refusal top b.rules (lengths_with mem lent) (broken b mem) (view_with b mem g) (segment_of b) h m
 
-  turned-away : (a : StepAnswer) → refusal ≡ some a → stepped_to top h b mem lent g m ≡ unchanged a h b mem g
+  turned-away : (a : StepAnswer) → refusal ≡ Some a → stepped_to top h b mem lent g m ≡ unchanged a h b mem g
   unfolding stepped_to unless_refused
   turned-away a e = rw e
 
-  pub unusable-work : (e : StateError) → book_refusal top b mem lent ≡ some e → stepped_to top h b mem lent g m ≡ unchanged (Stepped (answers.Unusable e)) h b mem g
+  pub unusable-work : (e : StateError) → book_refusal top b mem lent ≡ Some e → stepped_to top h b mem lent g m ≡ unchanged (Stepped (answers.Unusable e)) h b mem g
   unfolding step_refusal
   unusable-work e q = turned-away _ (first-fails _ _ _ _ q)
 
@@ -51,7 +51,7 @@ module _ (top : ℕ) (h : Handshake) (b : BookReconstructor) (mem : Memory) (len
     unfolding stepped_to step_to step_refusal
     usable-work =
         rw (first_on _ _ _ _ (usable-none top b mem lent u) refl)
-        (ap (λ (w : Worked). unless_refused (check (other_segment h (segment_of b) b.segments) OtherSegment (check (not (event_in_range m.event)) (Stepped answers.AmountOutOfRange) none)) (cond (drops b.product_id g.start_seq m) (dropped h b mem g) (by_apply h w)) h b mem g) (applied-trusted_to top b mem lent g m u))
+        (ap (λ (w : Worked). unless_refused (check (other_segment h (segment_of b) b.segments) OtherSegment (check (not (event_in_range m.event)) (Stepped answers.AmountOutOfRange) None)) (cond (drops b.product_id g.start_seq m) (dropped h b mem g) (by_apply h w)) h b mem g) (applied-trusted_to top b mem lent g m u))
 
     other-work : other_segment h (segment_of b) b.segments ≡ true → stepped_to top h b mem lent g m ≡ unchanged OtherSegment h b mem g
     unfolding step_refusal
@@ -63,7 +63,7 @@ module _ (top : ℕ) (h : Handshake) (b : BookReconstructor) (mem : Memory) (len
       out_of_range-work q = turned-away _ (first_on _ _ _ _ (usable-none top b mem lent u) (goes_on _ _ _ _ p (fails _ _ _ q)))
 
       module _ (q : not (event_in_range m.event) ≡ false) where
-        let_through : refusal ≡ none
+        let_through : refusal ≡ None
         unfolding step_refusal
         let_through = first_on _ _ _ _ (usable-none top b mem lent u) (goes_on _ _ _ _ p (goes_on _ _ _ _ q refl))
 
@@ -92,7 +92,7 @@ module _ (top : ℕ) (h : Handshake) (b : BookReconstructor) (mem : Memory) (sg 
   same : (a : StepAnswer) (c : BookReconstructor) (w : StepWorked) → w ≡ unchanged a h c mem last → put_back sg b.segments w ≡ unchanged_parts a h c mem sg
   same a c w e = ap (put_back sg b.segments) e ∙ ap (unchanged_parts a h c mem) (relast-same sg b.segments)
 
-  pub unusable-step : (e : StateError) → book_refusal top b mem (length sg) ≡ some e → stepped top h b mem sg m ≡ unchanged_parts (Stepped (answers.Unusable e)) h b mem sg
+  pub unusable-step : (e : StateError) → book_refusal top b mem (length sg) ≡ Some e → stepped top h b mem sg m ≡ unchanged_parts (Stepped (answers.Unusable e)) h b mem sg
   unfolding stepped
   unusable-step e q = same _ b _ (unusable-work top h b mem (length sg) last m e q)
 

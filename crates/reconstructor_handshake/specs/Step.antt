@@ -1,8 +1,7 @@
 -- A handshake step: what it answers and leaves, for every input. 01, bootstrap_with_buffer: "a handshake value for that segment stepped by one message a call:
 -- after 1, 2, 3, 9, 5, the same product at or below that segment's start_seq, whatever the value holds, is dropped and counted; else `apply` decides. 10
 -- passes by; 16 or 17 ends the handshake; it keeps the number applied."
-use Rattle.std.specs.Prelude.{ℕ, Bool, true, not, ◌||◌, cond, List, [], eqb, length}
-use Rattle.std.proofs.Math.Option.{Option, none, some}
+use Rattle.std.specs.Prelude.{ℕ, Bool, true, not, ◌||◌, cond, List, [], eqb, length, Option, Some, None}
 use Rattle.message.specs.declared.L3Message.{L3Message}
 use Rattle.message.specs.Values.{event_in_range}
 use Rattle.book.specs.Memory.{Memory}
@@ -54,7 +53,7 @@ other_segment h name segments = h.ended || (eqb segments 0 || not (same_segment 
 unfoldable pub step_refusal : ℕ → VenueRules → Lengths → Bool → View → SegmentName → Handshake → L3Message → Option StepAnswer
 step_refusal top v lent three w name h m =
     first (state_refusal top v lent three w.segments) (λ (e : StateError). Stepped (answers.Unusable e))
-    (check (other_segment h name w.segments) OtherSegment (check (not (event_in_range m.event)) (Stepped answers.AmountOutOfRange) none))
+    (check (other_segment h name w.segments) OtherSegment (check (not (event_in_range m.event)) (Stepped answers.AmountOutOfRange) None))
 
 -- ---- what a step leaves
 
@@ -112,8 +111,8 @@ dropped h b mem g = unchanged Dropped h (with_counts b (counted b.counts Handsha
 
 -- a refusal, or else what the step does
 unfoldable pub unless_refused : Option StepAnswer → StepWorked → Handshake → BookReconstructor → Memory → Segment → StepWorked
-unless_refused (some a) p h b mem g = unchanged a h b mem g
-unless_refused none p h b mem g = p
+unless_refused (Some a) p h b mem g = unchanged a h b mem g
+unless_refused None p h b mem g = p
 
 -- any step, the last record being g, of a list of so many; the ceiling of the limits is an argument
 unfoldable pub stepped_to : ℕ → Handshake → BookReconstructor → Memory → ℕ → Segment → L3Message → StepWorked

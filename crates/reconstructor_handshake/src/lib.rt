@@ -13,7 +13,6 @@ use message::L3Message;
 use reconstructor::Work;
 use reconstructor_answers::ApplyAnswer;
 use reconstructor_apply_trusted::apply_trusted;
-use reconstructor_checks::Checked;
 use reconstructor_counts::Counter;
 use reconstructor_handshake_rules::{applied_by, drops, ends};
 use reconstructor_segments::{Segment, SegmentName};
@@ -189,10 +188,10 @@ impl Handshake {
         ensures { step_worked result (memory rows.new) ≡ stepped_to top self book (memory rows.old) lent last message }
     {
         match reconstructor_checks::own_checks(top, book, rows, lent) {
-            Checked::Refused(why) => {
+            Err(why) => {
                 self.unchanged(book, last, StepAnswer::Stepped(ApplyAnswer::Unusable(why)))
             }
-            Checked::Passed => self.step_trusted(book, rows, last, message),
+            Ok(()) => self.step_trusted(book, rows, last, message),
         }
     }
 

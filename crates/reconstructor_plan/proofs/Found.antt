@@ -1,5 +1,6 @@
 -- A search of the rows, as the rules see it.
 -- Assumes nothing.
+use Rattle.std.specs.Prelude.{Option, Some, None}
 use Prim.Native.Nat.{ℕ, ◌<◌}
 use mathlib.Core.Path.{◌≡◌, refl, sym, ap, ◌∙◌}
 use native.Mathlib.Omega.{arith}
@@ -7,15 +8,11 @@ use borrow.Author.Tests.{eqb-true, lt-leb}
 use lib.Dec.{eqb, leb}
 use mathlib.Core.Bool.{Bool, true, false, not, ◌&&◌, cond}
 use mathlib.Core.List.{List}
-use mathlib.Core.Option.{none, some}
 use lib.ListN.{length}
 use Rattle.message.specs.declared.L3Side.{L3Side}
 use Rattle.message.specs.declared.OrderId.{OrderId}
-use Rattle.book.specs.declared.Found.{Found}
-use Rattle.book.specs.declared.Found.TheVariants.{At, Nothing}
 use Rattle.book.specs.declared.Resting.{Resting}
 use Rattle.book.specs.Line.{find, present, rests, has_level, levels}
-use Rattle.book.specs.declared.Decrease.{Decrease}
 use Rattle.book.specs.Rows.{row_at, rows_of, line_of, entry_of, find_row, cut_rows}
 use Rattle.reconstructor_counts.specs.declared.Counter.{Counter}
 use Rattle.reconstructor_state.specs.declared.VenueRules.{VenueRules}
@@ -28,17 +25,17 @@ use Rattle.book.proofs.Moves.{levels_most}
 use Rattle.book.proofs.Kept.{length-line}
 use Rattle.book.proofs.Stored.{FoundAt, found_at, found_none}
 
-module _ (ws : List ℕ) (n : ℕ) (d : OrderId) (r : Found) (e : r ≡ find_row (rows_of ws n) d 0) where
-  pub at_row : (i : ℕ) → r ≡ At i → FoundAt ws n d i
+module _ (ws : List ℕ) (n : ℕ) (d : OrderId) (r : Option ℕ) (e : r ≡ find_row (rows_of ws n) d 0) where
+  pub at_row : (i : ℕ) → r ≡ Some i → FoundAt ws n d i
   at_row i h = found_at ws n d i (sym e ∙ h)
 
-  pub row-entry : (i : ℕ) (o : Resting) → r ≡ At i → o ≡ row_at ws i → find d (line_of (rows_of ws n)) ≡ some (entry_of o)
-  row-entry i o h q = (at_row i h).entry ∙ ap (λ (x : Resting). some (entry_of x)) (sym q)
+  pub row-entry : (i : ℕ) (o : Resting) → r ≡ Some i → o ≡ row_at ws i → find d (line_of (rows_of ws n)) ≡ Some (entry_of o)
+  row-entry i o h q = (at_row i h).entry ∙ ap (λ (x : Resting). Some (entry_of x)) (sym q)
 
-  pub it-rests : (i : ℕ) → r ≡ At i → rests d (line_of (rows_of ws n)) ≡ true
+  pub it-rests : (i : ℕ) → r ≡ Some i → rests d (line_of (rows_of ws n)) ≡ true
   it-rests i h = ap present (at_row i h).entry
 
-  pub no_row : r ≡ Nothing → find d (line_of (rows_of ws n)) ≡ none
+  pub no_row : r ≡ None → find d (line_of (rows_of ws n)) ≡ None
   no_row h = found_none (rows_of ws n) d 0 (sym e ∙ h)
 
 pub line-length : (ws : List ℕ) (n : ℕ) → length (line_of (rows_of ws n)) ≡ n
@@ -54,7 +51,7 @@ room_enough v ws n s p h = go (has_level s p (line_of (rows_of ws n)))
 
 -- ---- a row cut to r, gone at zero
 
-module _ (ws : List ℕ) (n : ℕ) (d : OrderId) (i : ℕ) (f : FoundAt ws n d i) (r : ℕ) (mark : Decrease) (k : Counter) where
+module _ (ws : List ℕ) (n : ℕ) (d : OrderId) (i : ℕ) (f : FoundAt ws n d i) (r : ℕ) (mark : Option ℕ) (k : Counter) where
   pub cut-outcome : plan_outcome ws n (cut_plan i r mark k) ≡ record { orders = cut_rows d r mark (rows_of ws n); counter = k; answer = BookChanged }
   cut-outcome = go (eqb r 0) refl
     where

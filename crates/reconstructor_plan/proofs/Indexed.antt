@@ -1,18 +1,16 @@
 -- The rows after an accepted event are in the index that foresaw and noted it.
 -- Assumes nothing.
+use Rattle.std.specs.Prelude.{Option, Some, None}
 use Prim.Native.Nat.{ℕ, ◌-◌}
 use mathlib.Core.Path.{◌≡◌, ap, ◌∙◌}
 use mathlib.Core.Bool.{Bool, true, false, cond}
 use mathlib.Core.List.{List}
-use mathlib.Core.Option.{Option, none, some}
 use lib.Dec.{eqb}
 use Rattle.message.specs.declared.L3Side.{L3Side}
 use Rattle.message.specs.declared.L3Event.{L3Event}
 use Rattle.message.specs.declared.L3Event.TheVariants.{Received, Open, Done, Match, Change, Unsupported}
 use Rattle.message.specs.Amounts.{nat_of}
 use Rattle.reconstructor_state.specs.declared.VenueRules.{VenueRules}
-use Rattle.book.specs.declared.Decrease.{Decrease}
-use Rattle.book.specs.declared.Decrease.TheVariants.{Unmarked, Marked}
 use Rattle.book.specs.declared.Resting.{Resting}
 use Rattle.book.specs.Line.{Entry, find}
 use Rattle.book.specs.Rows.{line_of, reduced, observed_row}
@@ -24,7 +22,7 @@ use Rattle.book_index.proofs.Index.{all-joined, all_cut, marked-same, bounded-sa
 use Rattle.book.proofs.Memory.{observed-side}
 
 -- a test that looks at neither the size nor the mark of a decrease, and that the event's new order passes
-module _ (f : Resting → Bool) (same : (o : Resting) (r : ℕ) (mark : Decrease) → f (reduced o r mark) ≡ f o) (v : VenueRules) (os : List Resting) (h : all f os ≡ true) (seq : ℕ) where
+module _ (f : Resting → Bool) (same : (o : Resting) (r : ℕ) (mark : Option ℕ) → f (reduced o r mark) ≡ f o) (v : VenueRules) (os : List Resting) (h : all f os ≡ true) (seq : ℕ) where
   abbrev Joins : L3Event → Type 0
   Joins (Received d s) = Unit {0}
   Joins (Open d s p q) = f (observed_row seq (entry_for d s (nat_of p) (nat_of q))) ≡ true
@@ -40,22 +38,22 @@ module _ (f : Resting → Bool) (same : (o : Resting) (r : ℕ) (mark : Decrease
   event_all (Done d s p why r) j = go (find d (line_of os))
     where
       go : (o : Option Entry) → all f (orders_by (done_effect d o) os) ≡ true
-      go none = h
-      go (some e) = all_cut f same d 0 Unmarked os h
+      go None = h
+      go (Some e) = all_cut f same d 0 None os h
   event_all (Match m t s p q) j = go (find m (line_of os))
     where
       go : (o : Option Entry) → all f (orders_by (match_effect m o (nat_of q)) os) ≡ true
-      go none = h
-      go (some e) = all_cut f same m (e.remaining - nat_of q) Unmarked os h
+      go None = h
+      go (Some e) = all_cut f same m (e.remaining - nat_of q) None os h
   event_all (Change d s why p old_size new_size old_price new_price funds) j = go (find d (line_of os))
     where
-      noop : (b : Bool) → all f (orders_by (cond b keep (cut_to d (size_given new_size) (Marked seq))) os) ≡ true
+      noop : (b : Bool) → all f (orders_by (cond b keep (cut_to d (size_given new_size) (Some seq))) os) ≡ true
       noop true = h
-      noop false = all_cut f same d (size_given new_size) (Marked seq) os h
+      noop false = all_cut f same d (size_given new_size) (Some seq) os h
 
       go : (o : Option Entry) → all f (orders_by (change_effect seq d o (size_given new_size)) os) ≡ true
-      go none = h
-      go (some e) = noop (eqb (size_given new_size) e.remaining)
+      go None = h
+      go (Some e) = noop (eqb (size_given new_size) e.remaining)
   event_all (Unsupported k) j = h
 
 -- noting an event takes no mark away

@@ -1,10 +1,10 @@
 -- An accepted event keeps the rows well formed.
 -- Assumes nothing.
+use Rattle.std.specs.Prelude.{Option, Some, None}
 use Prim.Native.Nat.{ℕ, ◌-◌, ◌≤◌, ◌<◌}
 use mathlib.Core.Bool.{Bool, true, false, not, ◌&&◌, cond}
 use mathlib.Core.Path.{◌≡◌, refl, sym, ap, ◌∙◌}
 use mathlib.Core.List.{List, [], ◌∷◌, ◌++◌}
-use mathlib.Core.Option.{Option, none, some}
 use native.Mathlib.Omega.{arith}
 use borrow.Author.Tests.{eqb-false, ltb-false, leb-false}
 use lib.Dec.{leb, ltb, eqb}
@@ -12,17 +12,11 @@ use lib.ListN.{length}
 use Rattle.message.specs.declared.L3Side.{L3Side}
 use Rattle.message.specs.declared.L3Side.TheVariants.{Buy, Sell}
 use Rattle.message.specs.declared.OrderId.{OrderId}
-use Rattle.message.specs.declared.OptionalAmount.{OptionalAmount}
-use Rattle.message.specs.declared.OptionalAmount.TheVariants.{Absent, Given}
 use Rattle.message.specs.declared.L3Event.{L3Event}
 use Rattle.message.specs.declared.L3Event.TheVariants.{Received, Open, Done, Match, Change, Unsupported}
 use Rattle.message.specs.Values.{amount_limit, in_range, event_in_range}
 use Rattle.message.specs.Amounts.{nat_of}
 use Rattle.book.specs.Broken.{WellFormed}
-use Rattle.book.specs.declared.Decrease.{Decrease}
-use Rattle.book.specs.declared.Decrease.TheVariants.{Unmarked, Marked}
-use Rattle.book.specs.declared.Found.{Found}
-use Rattle.book.specs.declared.Found.TheVariants.{At, Nothing}
 use Rattle.book.specs.declared.Resting.{Resting}
 use Rattle.book.specs.Line.{Entry, find, has_level, levels, would_cross}
 use Rattle.book.specs.Rows.{row_at, rows_of, line_of, entry_of, find_row, cut_rows, observed_kind, observed_row}
@@ -51,7 +45,7 @@ fits : (x : ℕ) → eqb x 0 ≡ false → x ≤ amount_limit → InRange x
 fits x z h = let q : x ≡ 0 → ⊥ = eqb-false x 0 z in record { low = omega (arith, q); high = h }
 
 join-formed : (v : VenueRules) (os : List Resting) (seq : ℕ) (d : OrderId) (s : L3Side) (p q : ℕ) → WellFormed v.max_orders v.max_levels os
-    → p ≤ amount_limit → q ≤ amount_limit → open_refusal v (line_of os) d s p q ≡ none
+    → p ≤ amount_limit → q ≤ amount_limit → open_refusal v (line_of os) d s p q ≡ None
     → WellFormed v.max_orders v.max_levels (os ++ (observed_row seq (entry_for d s p q) ∷ []))
 unfolding open_refusal
 join-formed v os seq d s p q w hp hq h =
@@ -76,16 +70,16 @@ join-formed v os seq d s p q w hp hq h =
 
 -- ---- a cut row
 
-cut-formed : (mo ml : ℕ) (ws : List ℕ) (n : ℕ) (d : OrderId) (r : ℕ) (mark : Decrease) (e : Entry) → WellFormed mo ml (rows_of ws n)
-    → find d (line_of (rows_of ws n)) ≡ some e → r ≤ e.remaining → WellFormed mo ml (cut_rows d r mark (rows_of ws n))
+cut-formed : (mo ml : ℕ) (ws : List ℕ) (n : ℕ) (d : OrderId) (r : ℕ) (mark : Option ℕ) (e : Entry) → WellFormed mo ml (rows_of ws n)
+    → find d (line_of (rows_of ws n)) ≡ Some e → r ≤ e.remaining → WellFormed mo ml (cut_rows d r mark (rows_of ws n))
 cut-formed mo ml ws n d r mark e w q h = go (find_row (rows_of ws n) d 0) refl
   where
-    go : (f : Found) → find_row (rows_of ws n) d 0 ≡ f → WellFormed mo ml (cut_rows d r mark (rows_of ws n))
-    go Nothing p =
+    go : (f : Option ℕ) → find_row (rows_of ws n) d 0 ≡ f → WellFormed mo ml (cut_rows d r mark (rows_of ws n))
+    go None p =
         let k = found_none (rows_of ws n) d 0 p in
         let z : ◌≡◌ {A = ℕ} 0 1 = cc in
         absurd (omega arith)
-    go (At i) p =
+    go (Some i) p =
         let k = (found_at ws n d i p).entry in
         let t : e ≡ entry_of (row_at ws i) = cc in
         let l : e.remaining ≡ (row_at ws i).remaining = ap (λ (x : Entry). x.remaining) t in
@@ -97,7 +91,7 @@ module _ (v : VenueRules) (ws : List ℕ) (n seq : ℕ) (w : WellFormed v.max_or
   abbrev Formed : List Resting → Type 0
   Formed os = WellFormed v.max_orders v.max_levels os
 
-  pub event-formed : (x : L3Event) → event_in_range x ≡ true → event_refusal v (line_of (rows_of ws n)) x ≡ none → Formed (orders_by (effect v (line_of (rows_of ws n)) seq x) (rows_of ws n))
+  pub event-formed : (x : L3Event) → event_in_range x ≡ true → event_refusal v (line_of (rows_of ws n)) x ≡ None → Formed (orders_by (effect v (line_of (rows_of ws n)) seq x) (rows_of ws n))
   unfolding event_refusal effect event_in_range change_refusal size_refusal
   event-formed (Received d s) g h = w
   event-formed (Open d s p q) g h =
@@ -106,27 +100,27 @@ module _ (v : VenueRules) (ws : List ℕ) (n seq : ℕ) (w : WellFormed v.max_or
   event-formed (Done d s p why r) g h = go (find d (line_of (rows_of ws n))) refl
     where
       go : (o : Option Entry) → find d (line_of (rows_of ws n)) ≡ o → Formed (orders_by (done_effect d o) (rows_of ws n))
-      go none q = w
-      go (some e) q = cut-formed v.max_orders v.max_levels ws n d 0 Unmarked e w q (omega arith)
+      go None q = w
+      go (Some e) q = cut-formed v.max_orders v.max_levels ws n d 0 None e w q (omega arith)
   event-formed (Match m t s p x) g h = go (find m (line_of (rows_of ws n))) refl
     where
       go : (o : Option Entry) → find m (line_of (rows_of ws n)) ≡ o → Formed (orders_by (match_effect m o (nat_of x)) (rows_of ws n))
-      go none q = w
-      go (some e) q = cut-formed v.max_orders v.max_levels ws n m (e.remaining - nat_of x) Unmarked e w q (omega arith)
+      go None q = w
+      go (Some e) q = cut-formed v.max_orders v.max_levels ws n m (e.remaining - nat_of x) None e w q (omega arith)
   event-formed (Change d s why p old_size new_size old_price new_price funds) g h = go (find d (line_of (rows_of ws n))) refl h
     where
-      smaller : (e : Entry) (z : OptionalAmount) → size_refusal e.remaining z funds ≡ none → size_given z ≤ e.remaining
-      smaller e Absent h = omega arith
-      smaller e (Given x) h = ltb-false e.remaining (nat_of x) (passed _ _ _ (passed _ _ _ h).1).0
+      smaller : (e : Entry) (z : Option ℤ) → size_refusal e.remaining z funds ≡ None → size_given z ≤ e.remaining
+      smaller e None h = omega arith
+      smaller e (Some x) h = ltb-false e.remaining (nat_of x) (passed _ _ _ (passed _ _ _ h).1).0
 
-      go : (o : Option Entry) → find d (line_of (rows_of ws n)) ≡ o → change_refusal o s why p old_size new_size old_price new_price funds ≡ none
+      go : (o : Option Entry) → find d (line_of (rows_of ws n)) ≡ o → change_refusal o s why p old_size new_size old_price new_price funds ≡ None
           → Formed (orders_by (change_effect seq d o (size_given new_size)) (rows_of ws n))
-      go none q h = w
-      go (some e) q h = noop (eqb (size_given new_size) e.remaining)
+      go None q h = w
+      go (Some e) q h = noop (eqb (size_given new_size) e.remaining)
         where
-          noop : (b : Bool) → Formed (orders_by (cond b keep (cut_to d (size_given new_size) (Marked seq))) (rows_of ws n))
+          noop : (b : Bool) → Formed (orders_by (cond b keep (cut_to d (size_given new_size) (Some seq))) (rows_of ws n))
           noop true = w
           noop false =
-              cut-formed v.max_orders v.max_levels ws n d (size_given new_size) (Marked seq) e w q
+              cut-formed v.max_orders v.max_levels ws n d (size_given new_size) (Some seq) e w q
               (smaller e new_size (passed _ _ _ (passed _ _ _ (passed _ _ _ h).1).1).1)
   event-formed (Unsupported k) g h = w

@@ -1,8 +1,6 @@
 -- What a plan comes to, and what planning promises: a refusal that is the rules', or a plan that does what the rules say.
-use Rattle.std.specs.Prelude.{ℕ, ◌+◌, ◌*◌, ◌≤◌, ◌<◌, ◌≡◌, cond, List, [], ◌∷◌, ◌++◌, eqb, length, set}
-use Rattle.std.proofs.Math.Option.{Option, none, some}
+use Rattle.std.specs.Prelude.{ℕ, ◌+◌, ◌*◌, ◌≤◌, ◌<◌, ◌≡◌, cond, List, [], ◌∷◌, ◌++◌, eqb, length, set, Option, Some, None, Result, Ok, Err}
 use Rattle.message.specs.declared.L3Event.{L3Event}
-use Rattle.book.specs.declared.Decrease.{Decrease}
 use Rattle.book.specs.declared.Resting.{Resting}
 use Rattle.book.specs.Rows.{row_words, most_rows, row_at, rows_of, line_of, remove_at, reduced}
 use Rattle.book.specs.Memory.{orders_by}
@@ -14,8 +12,6 @@ use Rattle.reconstructor_answers.specs.declared.Applied.TheVariants.{BookChanged
 use Rattle.reconstructor_answers.specs.declared.Discrepancy.{Discrepancy}
 use Rattle.reconstructor_plan.specs.declared.Plan.{Plan}
 use Rattle.reconstructor_plan.specs.declared.Plan.TheVariants.{NoEffect, Insert, Reduce, Remove}
-use Rattle.reconstructor_plan.specs.declared.Planned.{Planned}
-use Rattle.reconstructor_plan.specs.declared.Planned.TheVariants.{Plan as Planned-as-Plan, Refused}
 use Rattle.reconstructor_plan.specs.Rules.{Deed, answer_by, event_refusal, event_deed}
 
 -- n rows in use, and words for as many orders as the limit permits
@@ -42,7 +38,7 @@ plan_outcome ws n (Reduce at r mark k) = record { orders = set (rows_of ws n) at
 plan_outcome ws n (Remove at k) = record { orders = remove_at (rows_of ws n) at; counter = k; answer = BookChanged }
 
 -- the plan that leaves so much of the order at a row. 01, Match: "leaves at zero"; Change: "zero removes"
-abbrev pub cut_plan : ℕ → ℕ → Decrease → Counter → Plan
+abbrev pub cut_plan : ℕ → ℕ → Option ℕ → Counter → Plan
 cut_plan at r mark k = cond (eqb r 0) (Remove at k) (Reduce at r mark k)
 
 -- a plan names a row in use, or there is room for one more
@@ -53,17 +49,17 @@ PlanFits ws n (Reduce at r mark k) = at < n
 PlanFits ws n (Remove at k) = at < n
 
 -- the answer of planning, where the rules refuse so, and where they do so
-abbrev pub PlansFor : Option Discrepancy → Deed → List ℕ → ℕ → Planned → Type 0
-PlansFor refusal deed ws n (Refused d) = refusal ≡ some d
-PlansFor refusal deed ws n (Planned-as-Plan p) = (refusal ≡ none) × (plan_outcome ws n p ≡ deed_outcome deed (rows_of ws n)) × PlanFits ws n p
+abbrev pub PlansFor : Option Discrepancy → Deed → List ℕ → ℕ → Result Plan Discrepancy → Type 0
+PlansFor refusal deed ws n (Err d) = refusal ≡ Some d
+PlansFor refusal deed ws n (Ok p) = (refusal ≡ None) × (plan_outcome ws n p ≡ deed_outcome deed (rows_of ws n)) × PlanFits ws n p
 
 -- an event on n rows, under these rules and at this sequence
-abbrev pub Plans : VenueRules → List ℕ → ℕ → ℕ → L3Event → Planned → Type 0
+abbrev pub Plans : VenueRules → List ℕ → ℕ → ℕ → L3Event → Result Plan Discrepancy → Type 0
 Plans v ws n seq e r = PlansFor (event_refusal v (line_of (rows_of ws n)) e) (event_deed v (line_of (rows_of ws n)) seq e) ws n r
 
 -- under any rules; and under any rules and at any sequence, which the event does not ask for
-abbrev pub PlansAt : List ℕ → ℕ → ℕ → L3Event → Planned → Type 0
+abbrev pub PlansAt : List ℕ → ℕ → ℕ → L3Event → Result Plan Discrepancy → Type 0
 PlansAt ws n seq e r = (v : VenueRules) → Plans v ws n seq e r
 
-abbrev pub PlansAnywhere : List ℕ → ℕ → L3Event → Planned → Type 0
+abbrev pub PlansAnywhere : List ℕ → ℕ → L3Event → Result Plan Discrepancy → Type 0
 PlansAnywhere ws n e r = (v : VenueRules) (seq : ℕ) → Plans v ws n seq e r

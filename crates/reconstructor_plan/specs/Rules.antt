@@ -1,11 +1,8 @@
 -- The rules of one message, over a line of orders: why it is refused, what it does, which counter it adds to. 01, One message, from the entry
 -- down; "venue" is docs/venue-full-channel.md.
-use Rattle.std.specs.Prelude.{ℕ, ◌-◌, Bool, true, false, not, ◌&&◌, ◌||◌, cond, List, leb, ltb, eqb, ℤ, length}
-use Rattle.std.proofs.Math.Option.{Option, none, some}
+use Rattle.std.specs.Prelude.{ℕ, ◌-◌, Bool, true, false, not, ◌&&◌, ◌||◌, cond, List, leb, ltb, eqb, ℤ, length, Option, Some, None}
 use Rattle.message.specs.declared.L3Side.{L3Side}
 use Rattle.message.specs.declared.OrderId.{OrderId}
-use Rattle.message.specs.declared.OptionalAmount.{OptionalAmount}
-use Rattle.message.specs.declared.OptionalAmount.TheVariants.{Absent, Given}
 use Rattle.message.specs.declared.DoneReason.{DoneReason}
 use Rattle.message.specs.declared.DoneReason.TheVariants.{Filled, Canceled}
 use Rattle.message.specs.declared.ChangeReason.{ChangeReason}
@@ -14,7 +11,6 @@ use Rattle.message.specs.declared.L3Event.{L3Event}
 use Rattle.message.specs.declared.L3Event.TheVariants.{Received, Open, Done, Match, Change, Unsupported}
 use Rattle.message.specs.Same.{same_side}
 use Rattle.message.specs.Amounts.{nat_of, negative, differs, given_differs, absent_or_differs}
-use Rattle.book.specs.declared.Decrease.TheVariants.{Unmarked, Marked}
 use Rattle.book.specs.Line.{Entry, find, rests, has_level, levels, would_cross}
 use Rattle.book.specs.Memory.{Effect, keep, join, cut_to, snapshot}
 use Rattle.reconstructor_state.specs.declared.VenueRules.{VenueRules}
@@ -45,12 +41,12 @@ open_refusal v l d s p q =
     (check (eqb q 0) InvalidValue
     (check (would_cross s p l) CrossedAfterApply
     (check (leb v.max_orders (length l)) CapacityExceeded
-    (check (no_room v l s p) CapacityExceeded none)))))
+    (check (no_room v l s p) CapacityExceeded None)))))
 
 -- ---- Done. Venue: "The order's life is over, whether it rested or not .. remaining_size is what went unfilled: 0 for `filled`."
 
 -- "37 (side differs, or a given price differs)"
-abbrev pub done_differs : Entry → L3Side → OptionalAmount → Bool
+abbrev pub done_differs : Entry → L3Side → Option ℤ → Bool
 done_differs e s p = not (same_side e.side s) || given_differs p e.price
 
 abbrev pub is_filled : DoneReason → Bool
@@ -58,21 +54,21 @@ is_filled Filled = true
 is_filled Canceled = false
 
 -- "Id not resting: no effect .. Else 37; `filled` is 35; `canceled` is 36 if remaining is absent or differs"
-unfoldable pub done_refusal : Option Entry → L3Side → OptionalAmount → DoneReason → OptionalAmount → Option Discrepancy
-done_refusal none s p why r = none
-done_refusal (some e) s p why r =
+unfoldable pub done_refusal : Option Entry → L3Side → Option ℤ → DoneReason → Option ℤ → Option Discrepancy
+done_refusal None s p why r = None
+done_refusal (Some e) s p why r =
     check (done_differs e s p) DoneMismatch
-    (check (is_filled why) MissingMatch (check (absent_or_differs r e.remaining) RemainingMismatch none))
+    (check (is_filled why) MissingMatch (check (absent_or_differs r e.remaining) RemainingMismatch None))
 
 -- "else removed"
 abbrev pub done_effect : OrderId → Option Entry → Effect
-done_effect d none = keep
-done_effect d (some e) = cut_to d 0 Unmarked
+done_effect d None = keep
+done_effect d (Some e) = cut_to d 0 None
 
 -- "counts off_book_done"
 abbrev pub done_counter : Option Entry → Counter
-done_counter none = counters.OffBookDone
-done_counter (some e) = counters.Done
+done_counter None = counters.OffBookDone
+done_counter (Some e) = counters.Done
 
 -- ---- Match. Venue: "A trade between a resting maker and an incoming taker. `side` is the maker's. The price is the maker's."
 
@@ -81,10 +77,10 @@ match_differs e s p = not (same_side e.side s) || differs p e.price
 
 -- "30, 32, 42, 33": what is left once the taker does not rest
 unfoldable pub maker_refusal : Option Entry → L3Side → ℤ → ℕ → Option Discrepancy
-maker_refusal none s p q = some UnknownMaker
-maker_refusal (some e) s p q =
+maker_refusal None s p q = Some UnknownMaker
+maker_refusal (Some e) s p q =
     check (match_differs e s p) MatchMismatch
-    (check (eqb q 0) InvalidValue (check (ltb e.remaining q) MatchExceedsRemaining none))
+    (check (eqb q 0) InvalidValue (check (ltb e.remaining q) MatchExceedsRemaining None))
 
 -- "31" comes first
 abbrev pub match_refusal : List Entry → OrderId → OrderId → L3Side → ℤ → ℕ → Option Discrepancy
@@ -92,8 +88,8 @@ match_refusal l m t s p q = check (rests t l) TakerResting (maker_refusal (find 
 
 -- "the maker loses the size and leaves at zero .. A match never marks a decrease."
 abbrev pub match_effect : OrderId → Option Entry → ℕ → Effect
-match_effect d none q = keep
-match_effect d (some e) q = cut_to d (e.remaining - q) Unmarked
+match_effect d None q = keep
+match_effect d (Some e) q = cut_to d (e.remaining - q) None
 
 -- ---- Change. Venue: "Reason `STP` (self-trade prevention): size, or a market order's funds, only falls. Reason `modify_order`: a client changed
 -- the price or the size of its order"
@@ -103,53 +99,53 @@ is_modify Stp = false
 is_modify ModifyOrder = true
 
 -- "39 (side, given price, old size or old price differs)"
-abbrev pub change_differs : Entry → L3Side → OptionalAmount → OptionalAmount → OptionalAmount → Bool
+abbrev pub change_differs : Entry → L3Side → Option ℤ → Option ℤ → Option ℤ → Bool
 change_differs e s p old_size old_price =
     not (same_side e.side s) ||
     (given_differs p e.price || (given_differs old_size e.remaining || given_differs old_price e.price))
 
 -- "38 .. (reason "funds" if new_funds is given, else "no size")"
-abbrev pub reason_of : OptionalAmount → MalformedReason
-reason_of Absent = NoSize
-reason_of (Given x) = Funds
+abbrev pub reason_of : Option ℤ → MalformedReason
+reason_of None = NoSize
+reason_of (Some x) = Funds
 
 -- "38 without new size ..; 42 negative; 40 larger"
-unfoldable pub size_refusal : ℕ → OptionalAmount → OptionalAmount → Option Discrepancy
-size_refusal left Absent funds = some (MalformedChange (reason_of funds))
-size_refusal left (Given x) funds =
-    check (negative x) InvalidValue (check (ltb left (nat_of x)) UnsupportedModification none)
+unfoldable pub size_refusal : ℕ → Option ℤ → Option ℤ → Option Discrepancy
+size_refusal left None funds = Some (MalformedChange (reason_of funds))
+size_refusal left (Some x) funds =
+    check (negative x) InvalidValue (check (ltb left (nat_of x)) UnsupportedModification None)
 
 -- "Id not resting: no effect .. Else `modify_order` 40; 39; 40 (new price differs)"
-unfoldable pub change_refusal : Option Entry → L3Side → ChangeReason → OptionalAmount → OptionalAmount → OptionalAmount → OptionalAmount → OptionalAmount → OptionalAmount → Option Discrepancy
-change_refusal none s why p old_size new_size old_price new_price funds = none
-change_refusal (some e) s why p old_size new_size old_price new_price funds =
+unfoldable pub change_refusal : Option Entry → L3Side → ChangeReason → Option ℤ → Option ℤ → Option ℤ → Option ℤ → Option ℤ → Option ℤ → Option Discrepancy
+change_refusal None s why p old_size new_size old_price new_price funds = None
+change_refusal (Some e) s why p old_size new_size old_price new_price funds =
     check (is_modify why) UnsupportedModification
     (check (change_differs e s p old_size old_price) ChangeMismatch
     (check (given_differs new_price e.price) UnsupportedModification (size_refusal e.remaining new_size funds)))
 
-abbrev pub size_given : OptionalAmount → ℕ
-size_given Absent = 0
-size_given (Given x) = nat_of x
+abbrev pub size_given : Option ℤ → ℕ
+size_given None = 0
+size_given (Some x) = nat_of x
 
 -- "equal counts noop_change; zero removes; smaller reduces and sets decreased_at", to its sequence
 abbrev pub change_effect : ℕ → OrderId → Option Entry → ℕ → Effect
-change_effect seq d none r = keep
-change_effect seq d (some e) r = cond (eqb r e.remaining) keep (cut_to d r (Marked seq))
+change_effect seq d None r = keep
+change_effect seq d (Some e) r = cond (eqb r e.remaining) keep (cut_to d r (Some seq))
 
 abbrev pub change_counter : Option Entry → ℕ → Counter
-change_counter none r = counters.OffBookChange
-change_counter (some e) r = cond (eqb r e.remaining) counters.NoopChange counters.Stp
+change_counter None r = counters.OffBookChange
+change_counter (Some e) r = cond (eqb r e.remaining) counters.NoopChange counters.Stp
 
 -- ---- any event. "Received has no effect but is counted and advances the sequence."; 44: "unsupported event"
 
 unfoldable pub event_refusal : VenueRules → List Entry → L3Event → Option Discrepancy
-event_refusal v l (Received d s) = none
+event_refusal v l (Received d s) = None
 event_refusal v l (Open d s p q) = open_refusal v l d s (nat_of p) (nat_of q)
 event_refusal v l (Done d s p why r) = done_refusal (find d l) s p why r
 event_refusal v l (Match m t s p q) = match_refusal l m t s p (nat_of q)
 event_refusal v l (Change d s why p old_size new_size old_price new_price funds) =
     change_refusal (find d l) s why p old_size new_size old_price new_price funds
-event_refusal v l (Unsupported k) = some UnsupportedInput
+event_refusal v l (Unsupported k) = Some UnsupportedInput
 
 -- what an accepted event does, at this sequence; an unsupported one never is accepted
 unfoldable pub effect : VenueRules → List Entry → ℕ → L3Event → Effect

@@ -5,8 +5,7 @@
 ghost use Rattle.std.specs.Prelude.{◌≡◌};
 ghost use Rattle.reconstructor_plan.specs.Plans.{cut_plan};
 
-use book::{Decrease, Resting};
-use reconstructor_answers::Discrepancy;
+use book::Resting;
 use reconstructor_counts::Counter;
 
 // What a message does to the rows, and which counter it adds to.
@@ -18,7 +17,7 @@ pub enum Plan {
     Reduce {
         at: usize,
         remaining: u64,
-        mark: Decrease,
+        mark: Option<u64>,
         counter: Counter,
     },
     Remove {
@@ -27,15 +26,8 @@ pub enum Plan {
     },
 }
 
-// The answer of planning.
-#[derive(Clone, Copy)]
-pub enum Planned {
-    Plan(Plan),
-    Refused(Discrepancy),
-}
-
 // The plan of an order that has so much left: it leaves at zero.
-pub fn cut_plan(at: usize, left: u64, mark: Decrease, counter: Counter) -> Plan
+pub fn cut_plan(at: usize, left: u64, mark: Option<u64>, counter: Counter) -> Plan
     ensures { result ≡ cut_plan at left mark counter }
 {
     if left == 0 {

@@ -7,12 +7,12 @@ ghost use Rattle.book_index.specs.Index.{Indexed};
 ghost use Rattle.reconstructor_plan.specs.Rules.{is_modify, change_differs, reason_of};
 ghost use Rattle.reconstructor_plan.specs.Plans.{PlansAt};
 
-use book::{Decrease, Found, Resting};
+use book::Resting;
 use book_index::Bounds;
-use message::{ChangeFields, ChangeReason, L3Event, L3Side, OptionalAmount, OrderId};
+use message::{ChangeFields, ChangeReason, L3Event, L3Side, OrderId};
 use reconstructor_answers::{Discrepancy, MalformedReason};
 use reconstructor_counts::Counter;
-use reconstructor_plan::{Plan, Planned, cut_plan};
+use reconstructor_plan::{Plan, cut_plan};
 
 fn is_modify(reason: ChangeReason) -> bool
     ensures { result ≡ is_modify reason }
@@ -36,12 +36,12 @@ fn change_differs(order: Resting, side: L3Side, fields: ChangeFields) -> bool
                 | message::amount::given_differs(old_price, order.price)))
 }
 
-fn reason_of(new_funds: OptionalAmount) -> MalformedReason
+fn reason_of(new_funds: Option<i64>) -> MalformedReason
     ensures { result ≡ reason_of new_funds }
 {
     match new_funds {
-        OptionalAmount::Absent => MalformedReason::NoSize,
-        OptionalAmount::Given(_) => MalformedReason::Funds,
+        None => MalformedReason::NoSize,
+        Some(_) => MalformedReason::Funds,
     }
 }
 
@@ -55,40 +55,40 @@ pub fn plan_change(
     side: L3Side,
     reason: ChangeReason,
     fields: ChangeFields,
-) -> Planned
+) -> Result<Plan, Discrepancy>
     requires lent { Lent rows.now n }
     requires indexed { Indexed places.now bounds (rows_of rows.now n) }
     ensures { PlansAt rows.now n seq (L3Event.Change order_id side reason fields.price fields.old_size fields.new_size fields.old_price fields.new_price fields.new_funds) result }
 {
     // An order that is not on the book was received and never opened, such as a market order: no visible effect.
-    let Found::At(at) = book_index::find(rows, n, places, bounds, order_id) else {
-        return Planned::Plan(Plan::NoEffect(Counter::OffBookChange));
+    let Some(at) = book_index::find(rows, n, places, bounds, order_id) else {
+        return Ok(Plan::NoEffect(Counter::OffBookChange));
     };
     let order = book::get_row(rows, at);
     if is_modify(reason) {
-        return Planned::Refused(Discrepancy::UnsupportedModification);
+        return Err(Discrepancy::UnsupportedModification);
     }
     if change_differs(order, side, fields) {
-        return Planned::Refused(Discrepancy::ChangeMismatch);
+        return Err(Discrepancy::ChangeMismatch);
     }
     let new_price = fields.new_price;
     if message::amount::given_differs(new_price, order.price) {
-        return Planned::Refused(Discrepancy::UnsupportedModification);
+        return Err(Discrepancy::UnsupportedModification);
     }
     let new_size = fields.new_size;
-    let OptionalAmount::Given(size) = new_size else {
+    let Some(size) = new_size else {
         let new_funds = fields.new_funds;
-        return Planned::Refused(Discrepancy::MalformedChange(reason_of(new_funds)));
+        return Err(Discrepancy::MalformedChange(reason_of(new_funds)));
     };
     if message::amount::is_negative(size) {
-        return Planned::Refused(Discrepancy::InvalidValue);
+        return Err(Discrepancy::InvalidValue);
     }
     let left = message::amount::size_of(size);
     if order.remaining < left {
-        return Planned::Refused(Discrepancy::UnsupportedModification);
+        return Err(Discrepancy::UnsupportedModification);
     }
     if left == order.remaining {
-        return Planned::Plan(Plan::NoEffect(Counter::NoopChange));
+        return Ok(Plan::NoEffect(Counter::NoopChange));
     }
-    Planned::Plan(cut_plan(at, left, Decrease::Marked(seq), Counter::Stp))
+    Ok(cut_plan(at, left, Some(seq), Counter::Stp))
 }

@@ -9,7 +9,7 @@ use book_index::Bounds;
 use message::{ChangeFields, L3Event};
 use reconstructor_answers::Discrepancy;
 use reconstructor_counts::Counter;
-use reconstructor_plan::{Plan, Planned};
+use reconstructor_plan::Plan;
 use reconstructor_plan_changes::plan_change;
 use reconstructor_plan_matches::plan_match;
 use reconstructor_plan_orders::{plan_done, plan_open};
@@ -24,13 +24,13 @@ pub fn plan_event(
     bounds: Bounds,
     seq: u64,
     event: L3Event,
-) -> Planned
+) -> Result<Plan, Discrepancy>
     requires ready { Ready rows.now n rules.max_orders }
     requires indexed { Indexed places.now bounds (rows_of rows.now n) }
     ensures { Plans rules rows.now n seq event result }
 {
     match event {
-        L3Event::Received { .. } => Planned::Plan(Plan::NoEffect(Counter::Received)),
+        L3Event::Received { .. } => Ok(Plan::NoEffect(Counter::Received)),
         L3Event::Open {
             order_id,
             side,
@@ -78,6 +78,6 @@ pub fn plan_event(
             };
             plan_change(rows, n, places, bounds, seq, order_id, side, reason, fields)
         }
-        L3Event::Unsupported { .. } => Planned::Refused(Discrepancy::UnsupportedInput),
+        L3Event::Unsupported { .. } => Err(Discrepancy::UnsupportedInput),
     }
 }

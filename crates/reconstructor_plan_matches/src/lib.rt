@@ -7,12 +7,12 @@ ghost use Rattle.book_index.specs.Index.{Indexed};
 ghost use Rattle.reconstructor_plan.specs.Rules.{match_differs};
 ghost use Rattle.reconstructor_plan.specs.Plans.{PlansAnywhere};
 
-use book::{Decrease, Found, Resting};
+use book::Resting;
 use book_index::Bounds;
 use message::{L3Event, L3Side, OrderId};
 use reconstructor_answers::Discrepancy;
 use reconstructor_counts::Counter;
-use reconstructor_plan::{Planned, cut_plan};
+use reconstructor_plan::{Plan, cut_plan};
 
 // Whether a match says another side or price than its maker has.
 fn match_differs(maker: Resting, side: L3Side, price: i64) -> bool
@@ -32,34 +32,29 @@ pub fn plan_match(
     side: L3Side,
     price: i64,
     size: i64,
-) -> Planned
+) -> Result<Plan, Discrepancy>
     requires lent { Lent rows.now n }
     requires indexed { Indexed places.now bounds (rows_of rows.now n) }
     ensures { PlansAnywhere rows.now n (L3Event.Match maker_id taker_id side price size) result }
 {
     // The taker is looked at first.
-    let Found::Nothing = book_index::find(rows, n, places, bounds, taker_id) else {
-        return Planned::Refused(Discrepancy::TakerResting);
+    let None = book_index::find(rows, n, places, bounds, taker_id) else {
+        return Err(Discrepancy::TakerResting);
     };
-    let Found::At(at) = book_index::find(rows, n, places, bounds, maker_id) else {
-        return Planned::Refused(Discrepancy::UnknownMaker);
+    let Some(at) = book_index::find(rows, n, places, bounds, maker_id) else {
+        return Err(Discrepancy::UnknownMaker);
     };
     let maker = book::get_row(rows, at);
     if match_differs(maker, side, price) {
-        return Planned::Refused(Discrepancy::MatchMismatch);
+        return Err(Discrepancy::MatchMismatch);
     }
     let q = message::amount::size_of(size);
     if q == 0 {
-        return Planned::Refused(Discrepancy::InvalidValue);
+        return Err(Discrepancy::InvalidValue);
     }
     if maker.remaining < q {
-        return Planned::Refused(Discrepancy::MatchExceedsRemaining);
+        return Err(Discrepancy::MatchExceedsRemaining);
     }
     // A match never marks a decrease.
-    Planned::Plan(cut_plan(
-        at,
-        maker.remaining - q,
-        Decrease::Unmarked,
-        Counter::Matched,
-    ))
+    Ok(cut_plan(at, maker.remaining - q, None, Counter::Matched))
 }

@@ -7,12 +7,12 @@ ghost use Rattle.book_index.specs.Index.{Indexed};
 ghost use Rattle.reconstructor_plan.specs.Rules.{entry_for, no_room, done_differs};
 ghost use Rattle.reconstructor_plan.specs.Plans.{Ready, Plans, PlansAnywhere};
 
-use book::{Found, Resting};
+use book::Resting;
 use book_index::Bounds;
-use message::{DoneReason, L3Event, L3Side, OptionalAmount, OrderId};
+use message::{DoneReason, L3Event, L3Side, OrderId};
 use reconstructor_answers::Discrepancy;
 use reconstructor_counts::Counter;
-use reconstructor_plan::{Plan, Planned};
+use reconstructor_plan::Plan;
 use reconstructor_state::VenueRules;
 
 // The row of an order that a message opens.
@@ -60,36 +60,36 @@ pub fn plan_open(
     side: L3Side,
     price: i64,
     remaining: i64,
-) -> Planned
+) -> Result<Plan, Discrepancy>
     requires ready { Ready rows.now n rules.max_orders }
     requires indexed { Indexed places.now bounds (rows_of rows.now n) }
     ensures { Plans rules rows.now n seq (L3Event.Open order_id side price remaining) result }
 {
-    let Found::Nothing = book_index::find(rows, n, places, bounds, order_id) else {
-        return Planned::Refused(Discrepancy::DuplicateOpen);
+    let None = book_index::find(rows, n, places, bounds, order_id) else {
+        return Err(Discrepancy::DuplicateOpen);
     };
     let p = message::amount::size_of(price);
     if p == 0 {
-        return Planned::Refused(Discrepancy::InvalidValue);
+        return Err(Discrepancy::InvalidValue);
     }
     let q = message::amount::size_of(remaining);
     if q == 0 {
-        return Planned::Refused(Discrepancy::InvalidValue);
+        return Err(Discrepancy::InvalidValue);
     }
     if book_index::would_cross(rows, n, places, bounds, side, p) {
-        return Planned::Refused(Discrepancy::CrossedAfterApply);
+        return Err(Discrepancy::CrossedAfterApply);
     }
     if n >= rules.max_orders {
-        return Planned::Refused(Discrepancy::CapacityExceeded);
+        return Err(Discrepancy::CapacityExceeded);
     }
     if no_room(rules, rows, n, side, p) {
-        return Planned::Refused(Discrepancy::CapacityExceeded);
+        return Err(Discrepancy::CapacityExceeded);
     }
-    Planned::Plan(Plan::Insert(observed_row(order_id, side, p, q, seq)))
+    Ok(Plan::Insert(observed_row(order_id, side, p, q, seq)))
 }
 
 // Whether a done says another side, or gives another price, than its order has.
-fn done_differs(order: Resting, side: L3Side, price: OptionalAmount) -> bool
+fn done_differs(order: Resting, side: L3Side, price: Option<i64>) -> bool
     ensures { result ≡ done_differs (entry_of order) side price }
 {
     !message::same_side(book::side_of(order.kind), side)
@@ -103,30 +103,30 @@ pub fn plan_done(
     bounds: Bounds,
     order_id: OrderId,
     side: L3Side,
-    price: OptionalAmount,
+    price: Option<i64>,
     reason: DoneReason,
-    remaining: OptionalAmount,
-) -> Planned
+    remaining: Option<i64>,
+) -> Result<Plan, Discrepancy>
     requires lent { Lent rows.now n }
     requires indexed { Indexed places.now bounds (rows_of rows.now n) }
     ensures { PlansAnywhere rows.now n (L3Event.Done order_id side price reason remaining) result }
 {
     // An order that is not on the book was received and never opened, or is already fully matched: no visible effect.
-    let Found::At(at) = book_index::find(rows, n, places, bounds, order_id) else {
-        return Planned::Plan(Plan::NoEffect(Counter::OffBookDone));
+    let Some(at) = book_index::find(rows, n, places, bounds, order_id) else {
+        return Ok(Plan::NoEffect(Counter::OffBookDone));
     };
     let order = book::get_row(rows, at);
     if done_differs(order, side, price) {
-        return Planned::Refused(Discrepancy::DoneMismatch);
+        return Err(Discrepancy::DoneMismatch);
     }
     match reason {
         // A resting order always has size: a fill would have removed it through its matches.
-        DoneReason::Filled => Planned::Refused(Discrepancy::MissingMatch),
+        DoneReason::Filled => Err(Discrepancy::MissingMatch),
         DoneReason::Canceled => {
             if message::amount::absent_or_differs(remaining, order.remaining) {
-                return Planned::Refused(Discrepancy::RemainingMismatch);
+                return Err(Discrepancy::RemainingMismatch);
             }
-            Planned::Plan(Plan::Remove {
+            Ok(Plan::Remove {
                 at,
                 counter: Counter::Done,
             })

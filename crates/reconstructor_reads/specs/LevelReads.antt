@@ -1,6 +1,5 @@
 -- The level reads: what each answers, writes and leaves, for every input. 01, Reads and Rows and pieces.
-use Rattle.std.specs.Prelude.{ℕ, Bool, cond, List, ltb, ℤ, length}
-use Rattle.std.proofs.Math.Option.{Option, none, some}
+use Rattle.std.specs.Prelude.{ℕ, Bool, cond, List, ltb, ℤ, length, Option, Some, None}
 use Rattle.message.specs.declared.L3Side.{L3Side}
 use Rattle.message.specs.Amounts.{nat_of}
 use Rattle.book.specs.declared.Resting.{Resting}
@@ -78,8 +77,8 @@ leaves a sc out = record { answer = a; scratch = sc; out = out }
 
 -- "a refusal changes no state and no buffer"
 unfoldable pub level_read : Option ViewError → Shows → List ℕ → List ℕ → LevelRead
-level_read (some e) w sc out = leaves (levels.Refused e) sc out
-level_read none w sc out = leaves (levels.Shown w.answer) w.scratch w.out
+level_read (Some e) w sc out = leaves (levels.Refused e) sc out
+level_read None w sc out = leaves (levels.Shown w.answer) w.scratch w.out
 
 -- 2: "scratch under max_orders"
 abbrev pub scratch_short : BookReconstructor → List ℕ → Bool
@@ -117,8 +116,8 @@ stale_standing (statuses.Valid last) w sc out = leaves_stale stales.NotStale sc 
 stale_standing (statuses.Invalidated i) w sc out = leaves_stale (stales.Shown w.answer) w.scratch w.out
 
 unfoldable pub stale_read : Option StateError → Status → Shows → List ℕ → List ℕ → StaleRead
-stale_read (some e) s w sc out = leaves_stale (stales.Unusable e) sc out
-stale_read none s w sc out = stale_standing s w sc out
+stale_read (Some e) s w sc out = leaves_stale (stales.Unusable e) sc out
+stale_read None s w sc out = stale_standing s w sc out
 
 abbrev pub stale_l2 : ℕ → BookReconstructor → Memory → List ℕ → L3Side → List ℕ → StaleRead
 stale_l2 top b mem sc s out =

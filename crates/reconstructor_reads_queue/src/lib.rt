@@ -11,7 +11,6 @@ ghost use Rattle.reconstructor_reads.specs.Numbers.{level_told};
 use message::L3Side;
 use reconstructor_reads::{LevelAnswer, show_queue};
 use reconstructor_state::{BookReconstructor, VenueRules};
-use reconstructor_view::SequenceAnswer;
 
 // The orders of one level in queue order: id high, id low, remaining, whether its open was observed, and where.
 pub fn level_queue(
@@ -44,9 +43,7 @@ pub fn level_queue_under(
     let most = rules.max_orders;
     let at = message::amount::size_of(price);
     match reconstructor_view::valid_book(top, book, rows, scratch.len() < most) {
-        SequenceAnswer::Refused(why) => LevelAnswer::Refused(why),
-        SequenceAnswer::Valid { .. } => {
-            LevelAnswer::Shown(show_queue(rows, book.rows, scratch, most, side, at, out))
-        }
+        Err(why) => LevelAnswer::Refused(why),
+        Ok(_) => { LevelAnswer::Shown(show_queue(rows, book.rows, scratch, most, side, at, out)) }
     }
 }

@@ -9,7 +9,6 @@ ghost use Rattle.reconstructor_reads.specs.LevelReads.{profile_words, l2_words, 
 use message::L3Side;
 use reconstructor_reads::{LevelAnswer, show_levels};
 use reconstructor_state::BookReconstructor;
-use reconstructor_view::SequenceAnswer;
 
 // Shows the levels of a side of a valid book, `width` words each.
 pub fn level_read(
@@ -27,8 +26,8 @@ pub fn level_read(
     let rules = book.rules;
     let most = rules.max_orders;
     match reconstructor_view::valid_book(top, book, rows, scratch.len() < most) {
-        SequenceAnswer::Refused(why) => LevelAnswer::Refused(why),
-        SequenceAnswer::Valid { .. } => {
+        Err(why) => LevelAnswer::Refused(why),
+        Ok(_) => {
             LevelAnswer::Shown(show_levels(rows, book.rows, scratch, most, side, width, out))
         }
     }

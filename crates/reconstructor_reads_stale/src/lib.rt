@@ -9,7 +9,6 @@ ghost use Rattle.reconstructor_reads.specs.LevelReads.{leaves_stale, stale_l2};
 ghost use Rattle.reconstructor_reads.specs.Numbers.{stale_told};
 
 use message::L3Side;
-use reconstructor_checks::Checked;
 use reconstructor_reads::{L2_WORDS, StaleAnswer, show_levels};
 use reconstructor_state::{BookReconstructor, Status, VenueRules};
 
@@ -41,8 +40,8 @@ pub fn stale_l2_under(
     let rules = book.rules;
     let most = rules.max_orders;
     match reconstructor_view::read_checks(top, book, rows, scratch.len() < most) {
-        Checked::Refused(why) => StaleAnswer::Unusable(why),
-        Checked::Passed => {
+        Err(why) => StaleAnswer::Unusable(why),
+        Ok(()) => {
             let status = book.status;
             match status {
                 Status::Empty => StaleAnswer::NotStale,

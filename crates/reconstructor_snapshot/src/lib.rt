@@ -8,9 +8,9 @@ ghost use Rattle.reconstructor_bootstrap.specs.Snapshot.{snapshot_line, line_ref
 ghost use Rattle.reconstructor_bootstrap.specs.Bootstrap.{validated};
 ghost use Rattle.reconstructor_bootstrap.specs.Places.{side_at, entry_at, entries_from, rows_at, Room};
 
-use book::{Found, Resting};
+use book::Resting;
 use message::{L3Side, L3Snapshot, OrderId, ProductId};
-use reconstructor_bootstrap::{SnapshotError, Validated};
+use reconstructor_bootstrap::SnapshotError;
 use reconstructor_state::VenueRules;
 
 // Bids stand before asks.
@@ -96,7 +96,7 @@ fn id_rests(rows: &[u64], i: usize, order: Resting) -> bool
         high: order.high,
         low: order.low,
     };
-    let Found::At(_) = book_search::find(rows, i, id) else {
+    let Some(_) = book_search::find(rows, i, id) else {
         return false;
     };
     true
@@ -115,7 +115,7 @@ fn levels_added(rows: &[u64], i: usize, order: Resting) -> usize
 }
 
 // The number of the first order that is turned away, or 13: the plain search, each order against those before it.
-fn check_in_turn(rows: &[u64], n: usize, max_levels: usize) -> Validated
+fn check_in_turn(rows: &[u64], n: usize, max_levels: usize) -> Result<(), SnapshotError>
     requires { Lent rows.now n }
     ensures { result ≡ validated (line_refusal max_levels (line_of (rows_of rows.now n))) }
 {
@@ -124,14 +124,14 @@ fn check_in_turn(rows: &[u64], n: usize, max_levels: usize) -> Validated
     while i < n {
         let order = book::get_row(rows, i);
         if id_rests(rows, i, order) {
-            return Validated::Refused(SnapshotError::DuplicateId);
+            return Err(SnapshotError::DuplicateId);
         }
         if (order.price == 0) | (order.remaining == 0) {
-            return Validated::Refused(SnapshotError::InvalidValue);
+            return Err(SnapshotError::InvalidValue);
         }
         let added = levels_added(rows, i, order);
         if (added == 1) & (max_levels <= levels) {
-            return Validated::Refused(SnapshotError::CapacityExceeded);
+            return Err(SnapshotError::CapacityExceeded);
         }
         levels += added;
         i += 1;
@@ -140,24 +140,24 @@ fn check_in_turn(rows: &[u64], n: usize, max_levels: usize) -> Validated
         book_prices::best_bid(rows, n),
         book_prices::best_ask(rows, n),
     ) {
-        return Validated::Refused(SnapshotError::Crossed);
+        return Err(SnapshotError::Crossed);
     }
-    Validated::Fits
+    Ok(())
 }
 
 // The same: rows that number 3 does not name, which is known in expected linear time, fit; only others are searched.
-fn validate_rows(rows: &[u64], n: usize, max_levels: usize) -> Validated
+fn validate_rows(rows: &[u64], n: usize, max_levels: usize) -> Result<(), SnapshotError>
     requires { Lent rows.now n }
     ensures { result ≡ validated (line_refusal max_levels (line_of (rows_of rows.now n))) }
 {
     if book_valid::rows_broken(rows, n, max_levels) {
         return check_in_turn(rows, n, max_levels);
     }
-    Validated::Fits
+    Ok(())
 }
 
 // The orders as rows of an array of its own, small where few orders ask for it: an array is cleared at each call.
-fn validate_128(bytes: &[u8], bids: usize, n: usize, max_levels: usize) -> Validated
+fn validate_128(bytes: &[u8], bids: usize, n: usize, max_levels: usize) -> Result<(), SnapshotError>
     requires { n ≤ 128 }
     ensures { result ≡ validated (line_refusal max_levels (entries_from bids bytes.now 0 n)) }
 {
@@ -166,7 +166,7 @@ fn validate_128(bytes: &[u8], bids: usize, n: usize, max_levels: usize) -> Valid
     validate_rows(&rows, n, max_levels)
 }
 
-fn validate_512(bytes: &[u8], bids: usize, n: usize, max_levels: usize) -> Validated
+fn validate_512(bytes: &[u8], bids: usize, n: usize, max_levels: usize) -> Result<(), SnapshotError>
     requires { n ≤ 512 }
     ensures { result ≡ validated (line_refusal max_levels (entries_from bids bytes.now 0 n)) }
 {
@@ -175,7 +175,12 @@ fn validate_512(bytes: &[u8], bids: usize, n: usize, max_levels: usize) -> Valid
     validate_rows(&rows, n, max_levels)
 }
 
-fn validate_4096(bytes: &[u8], bids: usize, n: usize, max_levels: usize) -> Validated
+fn validate_4096(
+    bytes: &[u8],
+    bids: usize,
+    n: usize,
+    max_levels: usize,
+) -> Result<(), SnapshotError>
     requires { n ≤ most_rows }
     ensures { result ≡ validated (line_refusal max_levels (entries_from bids bytes.now 0 n)) }
 {
@@ -184,7 +189,12 @@ fn validate_4096(bytes: &[u8], bids: usize, n: usize, max_levels: usize) -> Vali
     validate_rows(&rows, n, max_levels)
 }
 
-fn validate_orders(bytes: &[u8], bids: usize, n: usize, max_levels: usize) -> Validated
+fn validate_orders(
+    bytes: &[u8],
+    bids: usize,
+    n: usize,
+    max_levels: usize,
+) -> Result<(), SnapshotError>
     requires { n ≤ most_rows }
     ensures { result ≡ validated (line_refusal max_levels (entries_from bids bytes.now 0 n)) }
 {
@@ -213,15 +223,15 @@ pub fn validate_snapshot(
     rules: VenueRules,
     bytes: &[u8],
     snapshot: L3Snapshot,
-) -> Validated
+) -> Result<(), SnapshotError>
     requires { rules.max_orders ≤ most_rows }
     ensures { result ≡ validated (snapshot_refusal product rules snapshot (snapshot_line snapshot bytes.now)) }
 {
     if !message::same_product(snapshot.product_id, product) {
-        return Validated::Refused(SnapshotError::WrongProduct);
+        return Err(SnapshotError::WrongProduct);
     }
     if over_limit(rules.max_orders, snapshot.bids, snapshot.asks) {
-        return Validated::Refused(SnapshotError::CapacityExceeded);
+        return Err(SnapshotError::CapacityExceeded);
     }
     validate_orders(
         bytes,

@@ -11,7 +11,7 @@ ghost use Rattle.reconstructor.specs.Inner.{committed};
 
 use book_index::Bounds;
 use message::L3Message;
-use reconstructor::{Reply, Turn};
+use reconstructor::Reply;
 use reconstructor_answers::Applied;
 use reconstructor_counts::Counter;
 use reconstructor_plan::Plan;
@@ -63,7 +63,7 @@ pub fn apply_valid(
 {
     let seq = message.sequence;
     match take_turn(book, rows, places, bounds, last_seq, message) {
-        Turn::Plan(plan) => commit(book, rows, plan, seq),
-        Turn::Broken(kind) => invalidated(book, last_seq, seq, kind),
+        Ok(plan) => commit(book, rows, plan, seq),
+        Err(kind) => invalidated(book, last_seq, seq, kind),
     }
 }

@@ -11,9 +11,8 @@ ghost use Rattle.reconstructor.specs.Inner.{TurnsFor};
 
 use book_index::Bounds;
 use message::L3Message;
-use reconstructor::Turn;
 use reconstructor_answers::InvalidationKind;
-use reconstructor_plan::Planned;
+use reconstructor_plan::Plan;
 use reconstructor_state::BookReconstructor;
 
 // The turn of a message: its sequence, then its event.
@@ -24,29 +23,29 @@ pub fn take_turn(
     bounds: Bounds,
     last_seq: u64,
     message: L3Message,
-) -> Turn
+) -> Result<Plan, InvalidationKind>
     requires ready { Ready rows.now book.rows book.rules.max_orders }
     requires indexed { Indexed places.now bounds (rows_of rows.now book.rows) }
     ensures { TurnsFor (turn_refusal book.rules (line_in (memory rows.now) book.rows) last_seq message) (event_deed book.rules (line_in (memory rows.now) book.rows) message.sequence message.event) rows.now book.rows result }
 {
     let seq = message.sequence;
     if last_seq == u64::MAX {
-        return Turn::Broken(InvalidationKind::SequenceOverflow);
+        return Err(InvalidationKind::SequenceOverflow);
     }
     if seq <= last_seq {
-        return Turn::Broken(InvalidationKind::OutOfOrderOrDuplicate {
+        return Err(InvalidationKind::OutOfOrderOrDuplicate {
             last: last_seq,
             got: seq,
         });
     }
     let expected = last_seq + 1;
     if seq > expected {
-        return Turn::Broken(InvalidationKind::Gap { expected, got: seq });
+        return Err(InvalidationKind::Gap { expected, got: seq });
     }
     let rules = book.rules;
     let event = message.event;
     match reconstructor_plan_event::plan_event(rules, rows, book.rows, places, bounds, seq, event) {
-        Planned::Plan(plan) => Turn::Plan(plan),
-        Planned::Refused(d) => Turn::Broken(InvalidationKind::Discrepancy(d)),
+        Ok(plan) => Ok(plan),
+        Err(d) => Err(InvalidationKind::Discrepancy(d)),
     }
 }

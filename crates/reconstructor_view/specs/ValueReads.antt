@@ -1,6 +1,5 @@
 -- Reads of a book: when they are turned away, and those whose answer is a value. 01, Reads: "1, 2, 3, then 15 or 18".
-use Rattle.std.specs.Prelude.{ℕ, ◌+◌, Bool, false, ◌||◌, cond, List, leb, ltb, length}
-use Rattle.std.proofs.Math.Option.{Option, none, some}
+use Rattle.std.specs.Prelude.{ℕ, ◌+◌, Bool, false, ◌||◌, cond, List, leb, ltb, length, Option, Some, None, Result, Ok, Err, ⊤}
 use Rattle.message.specs.declared.L3Side.TheVariants.{Buy, Sell}
 use Rattle.book.specs.declared.Resting.{Resting}
 use Rattle.book.specs.Line.{Entry, best}
@@ -20,16 +19,9 @@ use Rattle.reconstructor_state.specs.State.{last_of}
 use Rattle.reconstructor_checks.specs.StateChecks.{over_ceiling, memory_short, broken}
 use Rattle.reconstructor_view.specs.declared.ViewError.{ViewError}
 use Rattle.reconstructor_view.specs.declared.ViewError.TheVariants as errors
-use Rattle.reconstructor_view.specs.declared.SequenceAnswer.{SequenceAnswer}
-use Rattle.reconstructor_view.specs.declared.SequenceAnswer.TheVariants as sequences
-use Rattle.reconstructor_view.specs.declared.BestAnswer.{BestAnswer}
-use Rattle.reconstructor_view.specs.declared.BestAnswer.TheVariants as bests
-use Rattle.reconstructor_view.specs.declared.InvalidationAnswer.{InvalidationAnswer}
-use Rattle.reconstructor_view.specs.declared.InvalidationAnswer.TheVariants as reasons
-use Rattle.reconstructor_view.specs.declared.SegmentAnswer.{SegmentAnswer}
-use Rattle.reconstructor_view.specs.declared.SegmentAnswer.TheVariants as records
-use Rattle.reconstructor_view.specs.declared.Audited.{Audited}
-use Rattle.reconstructor_view.specs.declared.Audited.TheVariants as audits
+use Rattle.reconstructor_answers.specs.declared.Invalidation.{Invalidation}
+use Rattle.reconstructor_view.specs.declared.BestPrices.{BestPrices}
+use Rattle.book_valid.specs.declared.AuditFinding.{AuditFinding}
 
 -- ---- when a read is turned away
 
@@ -38,13 +30,13 @@ use Rattle.reconstructor_view.specs.declared.Audited.TheVariants as audits
 unfoldable pub read_refusal : ℕ → VenueRules → Extent → Bool → Bool → Option StateError
 read_refusal top v lent short three =
     check (over_ceiling top v) LimitAboveCeiling
-    (check (memory_short v lent || short) LentTooShort (check three MalformedBook none))
+    (check (memory_short v lent || short) LentTooShort (check three MalformedBook None))
 
 -- "then 15 or 18": 18 carries the invalidation in force
 abbrev pub standing : Status → Option ViewError
-standing statuses.Empty = some errors.NotBootstrapped
-standing (statuses.Valid last) = none
-standing (statuses.Invalidated i) = some (errors.Invalidated i)
+standing statuses.Empty = Some errors.NotBootstrapped
+standing (statuses.Valid last) = None
+standing (statuses.Invalidated i) = Some (errors.Invalidated i)
 
 unfoldable pub view_refusal : ℕ → VenueRules → Extent → Bool → Bool → Status → Option ViewError
 view_refusal top v lent short three s = first (read_refusal top v lent short three) errors.Unusable (standing s)
@@ -59,44 +51,44 @@ view_refusal_of top b mem short = view_refusal top b.rules (extent_of mem) short
 -- ---- what a read answers
 
 -- the last sequence applied
-unfoldable pub sequence_of : Option ViewError → ℕ → SequenceAnswer
-sequence_of none last = sequences.Valid last
-sequence_of (some e) last = sequences.Refused e
+unfoldable pub sequence_of : Option ViewError → ℕ → Result ℕ ViewError
+sequence_of None last = Ok last
+sequence_of (Some e) last = Err e
 
 -- the best buy and the best sell
-unfoldable pub best_of : Option ViewError → List Entry → BestAnswer
-best_of none l = bests.Prices (best Buy l) (best Sell l)
-best_of (some e) l = bests.Refused e
+unfoldable pub best_of : Option ViewError → List Entry → Result BestPrices ViewError
+best_of None l = Ok (record { bid = best Buy l; ask = best Sell l })
+best_of (Some e) l = Err e
 
 -- what an audit of the rows finds
-unfoldable pub audited_of : Option ViewError → List Resting → Audited
-audited_of none os = audits.Found (audit_rows os)
-audited_of (some e) os = audits.Refused e
+unfoldable pub audited_of : Option ViewError → List Resting → Result (Result ⊤ AuditFinding) ViewError
+audited_of None os = Ok (audit_rows os)
+audited_of (Some e) os = Err e
 
 -- ---- the reads
 
-abbrev pub last_sequence : ℕ → BookReconstructor → Memory → SequenceAnswer
+abbrev pub last_sequence : ℕ → BookReconstructor → Memory → Result ℕ ViewError
 last_sequence top b mem = sequence_of (view_refusal_of top b mem false) (last_of b.status)
 
-abbrev pub best_read : ℕ → BookReconstructor → Memory → BestAnswer
+abbrev pub best_read : ℕ → BookReconstructor → Memory → Result BestPrices ViewError
 best_read top b mem = best_of (view_refusal_of top b mem false) (line_in mem b.rows)
 
-abbrev pub audit_read : ℕ → BookReconstructor → Memory → Audited
+abbrev pub audit_read : ℕ → BookReconstructor → Memory → Result (Result ⊤ AuditFinding) ViewError
 audit_read top b mem = audited_of (view_refusal_of top b mem false) (orders_of mem b.rows)
 
 -- ---- the state's own fields and the lent list, whatever the standing
 
 -- the invalidation in force
-abbrev pub invalidation_of : Status → InvalidationAnswer
-invalidation_of statuses.Empty = reasons.NotInvalid
-invalidation_of (statuses.Valid last) = reasons.NotInvalid
-invalidation_of (statuses.Invalidated i) = reasons.InForce i
+abbrev pub invalidation_of : Status → Option Invalidation
+invalidation_of statuses.Empty = None
+invalidation_of (statuses.Valid last) = None
+invalidation_of (statuses.Invalidated i) = Some i
 
 -- the record at a place: one of the book's, and within the list. Of a list of so many records, with the record by value
-unfoldable pub segment_read_to : BookReconstructor → ℕ → ℕ → Segment → SegmentAnswer
-segment_read_to b lent k g = cond (leb b.segments k) records.NoRecord (cond (leb lent k) records.NoRecord (records.Record g))
+unfoldable pub segment_read_to : BookReconstructor → ℕ → ℕ → Segment → Option Segment
+segment_read_to b lent k g = cond (leb b.segments k) None (cond (leb lent k) None (Some g))
 
-abbrev pub segment_read : BookReconstructor → List Segment → ℕ → SegmentAnswer
+abbrev pub segment_read : BookReconstructor → List Segment → ℕ → Option Segment
 segment_read b sg k = segment_read_to b (length sg) k (segment_at sg k)
 
 -- how many records there are up to a place, in a machine number

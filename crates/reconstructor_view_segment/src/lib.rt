@@ -7,7 +7,6 @@ ghost use Rattle.reconstructor_view.specs.Numbers.{segment_told};
 
 use reconstructor_segments::Segment;
 use reconstructor_state::BookReconstructor;
-use reconstructor_view::SegmentAnswer;
 
 // The largest machine number.
 const LARGEST: usize = usize::MAX;
@@ -29,20 +28,20 @@ pub fn segment_by_value(
     lent: usize,
     place: usize,
     record: Segment,
-) -> SegmentAnswer
+) -> Option<Segment>
     ensures { result ≡ segment_read_to book lent place «record» }
 {
     if place >= book.segments {
-        return SegmentAnswer::NoRecord;
+        return None;
     }
     if place >= lent {
-        return SegmentAnswer::NoRecord;
+        return None;
     }
-    SegmentAnswer::Record(record)
+    Some(record)
 }
 
 // The record of the segment at a place of the list. With the counts, which are a field of the book, it makes up the Rust's manifest.
-pub fn segment(book: BookReconstructor, segments: &[Segment], place: usize) -> SegmentAnswer
+pub fn segment(book: BookReconstructor, segments: &[Segment], place: usize) -> Option<Segment>
     ensures { (result ≡ segment_read book segments.now place) × (segment_told result ≡ segment_told (segment_read book segments.now place)) }
 {
     let count = records_to(place);

@@ -8,12 +8,12 @@ ghost use Rattle.reconstructor_state.specs.State.{ceiling};
 ghost use Rattle.reconstructor_view.specs.ValueReads.{last_sequence, best_read, audit_read};
 ghost use Rattle.reconstructor_view.specs.Numbers.{sequence_told, best_told, audited_told};
 
-use book_valid::AuditAnswer;
+use book_valid::AuditFinding;
 use reconstructor_state::{BookReconstructor, VenueRules};
-use reconstructor_view::{Audited, BestAnswer, SequenceAnswer, valid_book};
+use reconstructor_view::{BestPrices, ViewError, valid_book};
 
 // The last sequence applied.
-pub fn last_sequence(book: BookReconstructor, rows: &[u64]) -> SequenceAnswer
+pub fn last_sequence(book: BookReconstructor, rows: &[u64]) -> Result<u64, ViewError>
     ensures value { result ≡ last_sequence ceiling book (memory rows.now) }
     ensures told { sequence_told result ≡ sequence_told (last_sequence ceiling book (memory rows.now)) }
 {
@@ -21,7 +21,11 @@ pub fn last_sequence(book: BookReconstructor, rows: &[u64]) -> SequenceAnswer
 }
 
 // The same under a ceiling that the code can work with.
-pub fn last_sequence_under(top: usize, book: BookReconstructor, rows: &[u64]) -> SequenceAnswer
+pub fn last_sequence_under(
+    top: usize,
+    book: BookReconstructor,
+    rows: &[u64],
+) -> Result<u64, ViewError>
     requires { top ≤ most_rows }
     ensures { result ≡ last_sequence top book (memory rows.now) }
 {
@@ -29,7 +33,7 @@ pub fn last_sequence_under(top: usize, book: BookReconstructor, rows: &[u64]) ->
 }
 
 // Best bid and ask.
-pub fn best(book: BookReconstructor, rows: &[u64]) -> BestAnswer
+pub fn best(book: BookReconstructor, rows: &[u64]) -> Result<BestPrices, ViewError>
     ensures value { result ≡ best_read ceiling book (memory rows.now) }
     ensures told { best_told result ≡ best_told (best_read ceiling book (memory rows.now)) }
 {
@@ -37,24 +41,24 @@ pub fn best(book: BookReconstructor, rows: &[u64]) -> BestAnswer
 }
 
 // The same under a ceiling that the code can work with.
-pub fn best_under(top: usize, book: BookReconstructor, rows: &[u64]) -> BestAnswer
+pub fn best_under(
+    top: usize,
+    book: BookReconstructor,
+    rows: &[u64],
+) -> Result<BestPrices, ViewError>
     requires { top ≤ most_rows }
     ensures { result ≡ best_read top book (memory rows.now) }
 {
-    match valid_book(top, book, rows, false) {
-        SequenceAnswer::Refused(why) => BestAnswer::Refused(why),
-        SequenceAnswer::Valid { .. } => {
-            let n = book.rows;
-            BestAnswer::Prices {
-                bid: book_prices::best_bid(rows, n),
-                ask: book_prices::best_ask(rows, n),
-            }
-        }
-    }
+    valid_book(top, book, rows, false)?;
+    let n = book.rows;
+    Ok(BestPrices {
+        bid: book_prices::best_bid(rows, n),
+        ask: book_prices::best_ask(rows, n),
+    })
 }
 
 // The invariants of a valid book: positive sizes, each id once, not crossed. Number 3 has recomputed them, so that nothing is left to find.
-pub fn audit(book: BookReconstructor, rows: &[u64]) -> Audited
+pub fn audit(book: BookReconstructor, rows: &[u64]) -> Result<Result<(), AuditFinding>, ViewError>
     ensures value { result ≡ audit_read ceiling book (memory rows.now) }
     ensures told { audited_told result ≡ audited_told (audit_read ceiling book (memory rows.now)) }
 {
@@ -62,12 +66,14 @@ pub fn audit(book: BookReconstructor, rows: &[u64]) -> Audited
 }
 
 // The same under a ceiling that the code can work with.
-pub fn audit_under(top: usize, book: BookReconstructor, rows: &[u64]) -> Audited
+pub fn audit_under(
+    top: usize,
+    book: BookReconstructor,
+    rows: &[u64],
+) -> Result<Result<(), AuditFinding>, ViewError>
     requires { top ≤ most_rows }
     ensures { result ≡ audit_read top book (memory rows.now) }
 {
-    match valid_book(top, book, rows, false) {
-        SequenceAnswer::Refused(why) => Audited::Refused(why),
-        SequenceAnswer::Valid { .. } => Audited::Found(AuditAnswer::Ok),
-    }
+    valid_book(top, book, rows, false)?;
+    Ok(Ok(()))
 }

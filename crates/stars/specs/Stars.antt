@@ -1,11 +1,10 @@
 -- 01's table and figures on its book E, by computation: lists of calls with the number that each must give (stars: 13, 20, 21, 22, 30, 31, 33, 35, 36, 41),
 -- and the figures C1, C2 and C3. Snapshots.antt has those that a snapshot can meet.
-use Rattle.std.specs.Prelude.{ℕ, ◌≡◌, Bool, true, false, cond, List, [], ◌∷◌, map, eqb, pos, get_or, replicate, set, take}
+use Rattle.std.specs.Prelude.{ℕ, ◌≡◌, Bool, true, false, cond, List, [], ◌∷◌, map, eqb, pos, get_or, replicate, set, take, Some, None, Result, Ok, Err}
 use Rattle.message.specs.Told.{Told, told}
 use Rattle.message.specs.declared.OrderId.{OrderId}
 use Rattle.message.specs.declared.ProductId.{ProductId}
 use Rattle.message.specs.declared.L3Side.TheVariants.{Buy, Sell}
-use Rattle.message.specs.declared.OptionalAmount.TheVariants.{Absent, Given}
 use Rattle.message.specs.declared.DoneReason.TheVariants.{Filled, Canceled}
 use Rattle.message.specs.declared.ChangeReason.TheVariants.{Stp}
 use Rattle.message.specs.declared.L3Event.{L3Event}
@@ -30,14 +29,12 @@ use Rattle.reconstructor_reads.specs.Numbers.{level_told}
 use Rattle.reconstructor_reads.specs.LevelReads.{level_queue, l2}
 use Rattle.queue.specs.declared.Assumption.TheVariants.{EntrySequenceIsPriority}
 use Rattle.queue.specs.declared.QueueAhead.{QueueAhead}
-use Rattle.queue.specs.declared.EstimateAnswer.{EstimateAnswer}
-use Rattle.queue.specs.declared.EstimateAnswer.TheVariants as estimates
-use Rattle.queue.specs.declared.AheadAnswer.{AheadAnswer}
-use Rattle.queue.specs.declared.AheadAnswer.TheVariants as queues
 use Rattle.queue.specs.Numbers.{estimate_told, ahead_told}
 use Rattle.queue.specs.Estimates.{EstimateParts, queue_estimate, queue_estimate_own, volume_ahead}
 use Rattle.stars.specs.E.{product_p, product_q, order_a, order_b, piece, fresh, segment, any_record, snapshot_at, book_e, rows_e, memory_e, segments_e}
 use Rattle.stars.specs.Snapshots.{Examples}
+use Rattle.queue.specs.declared.QueueEstimate.{QueueEstimate}
+use Rattle.queue.specs.declared.QueueError.{QueueError}
 
 abbrev id : ℕ → OrderId
 id k = record { high = 0; low = k }
@@ -100,7 +97,7 @@ number_of t = cond (eqb t.number 16) (get_or t.values 2 0) t.number
 
 -- a change of A to a size
 abbrev changed : ℕ → L3Event
-changed n = Change a Buy Stp Absent Absent (Given (pos n)) Absent Absent Absent
+changed n = Change a Buy Stp None None (Some (pos n)) None None None
 
 abbrev opened : Call
 opened = on_e (at101 (Open o Buy (pos 10) (pos 5)))
@@ -137,11 +134,11 @@ table =
     row 32 (on_e (at101 (Match a z Buy (pos 11) (pos 1)))) ∷
     row 33 (on_e (at101 (Match a z Buy (pos 10) (pos 3)))) ∷
     row 34 (on_e (at101 (Open a Buy (pos 10) (pos 1)))) ∷
-    row 35 (on_e (at101 (Done a Buy Absent Filled Absent))) ∷
-    row 36 (on_e (at101 (Done a Buy Absent Canceled Absent))) ∷
-    row 37 (on_e (at101 (Done a Sell Absent Canceled (Given (pos 2))))) ∷
-    row 38 (on_e (at101 (Change a Buy Stp Absent Absent Absent Absent Absent Absent))) ∷
-    row 39 (on_e (at101 (Change a Buy Stp Absent (Given (pos 9)) (Given (pos 1)) Absent Absent Absent))) ∷
+    row 35 (on_e (at101 (Done a Buy None Filled None))) ∷
+    row 36 (on_e (at101 (Done a Buy None Canceled None))) ∷
+    row 37 (on_e (at101 (Done a Sell None Canceled (Some (pos 2))))) ∷
+    row 38 (on_e (at101 (Change a Buy Stp None None None None None None))) ∷
+    row 39 (on_e (at101 (Change a Buy Stp None (Some (pos 9)) (Some (pos 1)) None None None))) ∷
     row 40 (on_e (at101 (changed 3))) ∷
     row 41 (on_e (at101 (Open o Buy (pos 12) (pos 1)))) ∷
     row 42 (on_e (at101 (Open o Buy (pos 10) (pos 0)))) ∷
@@ -177,13 +174,13 @@ steps =
 abbrev scratch : List ℕ
 scratch = 5 ∷ 5 ∷ 5 ∷ []
 
-abbrev own : BookReconstructor → Memory → OrderId → EstimateAnswer
+abbrev own : BookReconstructor → Memory → OrderId → Result QueueEstimate QueueError
 own b mem d = queue_estimate_own ceiling b mem d
 
 -- the volume ahead that an estimate leads to
-abbrev ahead_from : BookReconstructor → Memory → EstimateAnswer → List ℕ → AheadAnswer
-ahead_from b mem (estimates.Estimate q) l = volume_ahead ceiling b mem q l
-ahead_from b mem (estimates.Refused e) l = queues.Refused e
+abbrev ahead_from : BookReconstructor → Memory → Result QueueEstimate QueueError → List ℕ → Result QueueAhead QueueError
+ahead_from b mem (Ok q) l = volume_ahead ceiling b mem q l
+ahead_from b mem (Err e) l = Err e
 
 -- a hypothetical order's estimate on E, with the order ahead in its list
 abbrev guess : EstimateParts
@@ -219,7 +216,7 @@ abbrev matched : Call
 matched = next opened (at 102 (Match a z Buy (pos 10) (pos 2)))
 
 abbrev canceled : Call
-canceled = on_e (at101 (Done z Buy Absent Canceled Absent))
+canceled = on_e (at101 (Done z Buy None Canceled None))
 
 -- an own order's figure: when it was read, the volume ahead, all of it from the snapshot, and the number of orders
 abbrev figure : ℕ → ℕ → ℕ → QueueAhead
@@ -248,11 +245,11 @@ pub record Stars : Type 0 where
   pub steps : map (λ (a : StepAnswer). (step_told a).number) steps ≡ 9 ∷ 9 ∷ 9 ∷ 512 ∷ 0 ∷ []
   pub reads : map (λ (t : Told). t.number) reads ≡ 7 ∷ 8 ∷ 15 ∷ 18 ∷ 50 ∷ 50 ∷ 51 ∷ 52 ∷ []
   -- C1: "E, open C buy 10 size 5 at 101: own estimate of C gives volume 2, from snapshot 2, observed 0, orders 1"
-  pub c1 : ahead_from (after opened).book (after opened).memory (own (after opened).book (after opened).memory o) [] ≡ queues.Ahead (figure 101 2 1)
+  pub c1 : ahead_from (after opened).book (after opened).memory (own (after opened).book (after opened).memory o) [] ≡ Ok (figure 101 2 1)
   -- C2: "E, open C buy 10 size 5 at 101 .. then match A size 2 at 102, taker Z: level 10 totals 5"
   pub c2 : volume Buy 10 (line_in (after matched).memory (after matched).book.rows) ≡ 5
   -- "C has 0 ahead", by the estimate that was made before the match
-  pub c2-ahead : ahead_from (after matched).book (after matched).memory (own (after opened).book (after opened).memory o) [] ≡ queues.Ahead (figure 102 0 0)
+  pub c2-ahead : ahead_from (after matched).book (after matched).memory (own (after opened).book (after opened).memory o) [] ≡ Ok (figure 102 0 0)
   -- and the words: B and C move down, the freed row is zeroed, the word past it is untouched, the segment is good to 102
   pub c2-rows : (after matched).memory.rows ≡ 0 ∷ 2 ∷ 12 ∷ 3 ∷ 1 ∷ 100 ∷ 0 ∷ 0 ∷ 0 ∷ 3 ∷ 10 ∷ 5 ∷ 2 ∷ 101 ∷ 0 ∷ 0 ∷ 0 ∷ 0 ∷ 0 ∷ 0 ∷ 0 ∷ 0 ∷ 0 ∷ 0 ∷ 7 ∷ []
   pub c2-list : (after matched).segments ≡ segment 100 102 0 0 0 0 5 5 ∷ any_record ∷ []

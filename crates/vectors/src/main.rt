@@ -12,7 +12,7 @@ mod print;
 use crate::memory::{ROWS, SEGMENTS};
 use host_words::STATE_WORDS;
 use recorded::{HEADER_BYTES, Header, least, read_header};
-use std::io::{self, Read, Stdin, Stdout};
+use std::io::{self, Stdin, Stdout};
 
 // The most input that is read: the recorded calls have less.
 const INPUT_BYTES: usize = 524288;

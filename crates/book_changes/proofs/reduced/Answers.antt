@@ -1,7 +1,7 @@
 use Rattle.book_changes.proofs.reduced.Goals as goal
 
-pub returns-in-Unmarked : goal.returns-in-Unmarked
-returns-in-Unmarked c = rw c.in-Unmarked.is
+pub returns-in-None : goal.returns-in-None
+returns-in-None c = rw c.in-None.is
 
-pub returns-in-Marked : goal.returns-in-Marked
-returns-in-Marked c = rw c.in-Marked.is
+pub returns-in-Some : goal.returns-in-Some
+returns-in-Some c = rw c.in-Some.is

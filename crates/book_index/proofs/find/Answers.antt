@@ -19,5 +19,5 @@ find_near-requires c =
 
 pub returns : goal.returns
 returns c =
-    let near = rw c.in-At.is at c.find_near.ensures in
+    let near = rw c.in-Some.is at c.find_near.ensures in
     near_is c.args.rows.now c.args.n _ c.args.id c.requires.1.single (omega (arith, near.0, c.smaller.ensures)) near.1

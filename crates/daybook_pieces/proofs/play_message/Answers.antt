@@ -14,14 +14,14 @@ apply_in_run-run-requires c =
     let a = c.args in
     record { trusted = trusted_under ceiling a.book (memory a.rows.now) day_segments (omega arith) c.requires.usable; indexed = c.requires.index }
 
-pub returns-in-Refused : goal.returns-in-Refused
-returns-in-Refused c =
-    let e = sym c.read_message.ensures.value ∙ c.in-Refused.is in
+pub returns-in-Err : goal.returns-in-Err
+returns-in-Err c =
+    let e = sym c.read_message.ensures.value ∙ c.in-Err.is in
     rw (e, c.unstarted.ensures, c.number.ensures) record { played = refl; plays = c.requires }
 
-pub returns-in-Message : goal.returns-in-Message
-returns-in-Message c =
-    let e = sym c.read_message.ensures.value ∙ c.in-Message.is in
+pub returns-in-Ok : goal.returns-in-Ok
+returns-in-Ok c =
+    let e = sym c.read_message.ensures.value ∙ c.in-Ok.is in
     let a = c.args in
     let w = c.apply_in_run-run in
-    rw (e, c.unstarted-in-Message.ensures, c.number-in-Message.ensures) record { played = message-played a.book a.rows.now _ a.last _ w.result.work c.requires.usable w.ensures.applies; plays = message-plays a.book a.rows.now _ a.last _ w.result.work c.requires.usable w.ensures.applies _ _ w.ensures.indexes }
+    rw (e, c.unstarted-in-Ok.ensures, c.number-in-Ok.ensures) record { played = message-played a.book a.rows.now _ a.last _ w.result.work c.requires.usable w.ensures.applies; plays = message-plays a.book a.rows.now _ a.last _ w.result.work c.requires.usable w.ensures.applies _ _ w.ensures.indexes }

@@ -17,15 +17,15 @@ bootstrap_usable-work-requires c =
 pub index_after-bounds-requires : goal.index_after-bounds-requires
 index_after-bounds-requires c =
     let a = c.args in
-    record { lent = (after-lent a.book a.rows.now _ a.last a.bytes.now _ c.bootstrap_usable-work.result c.requires.usable (sym c.read_snapshot.ensures.value ∙ c.in-Snapshot.is) c.bootstrap_usable-work.ensures, c.requires.index.few); marks = after-marks a.book a.rows.now _ a.last a.bytes.now _ c.bootstrap_usable-work.result c.requires.usable (sym c.read_snapshot.ensures.value ∙ c.in-Snapshot.is) c.bootstrap_usable-work.ensures _ _ c.requires.index }
+    record { lent = (after-lent a.book a.rows.now _ a.last a.bytes.now _ c.bootstrap_usable-work.result c.requires.usable (sym c.read_snapshot.ensures.value ∙ c.in-Ok.is) c.bootstrap_usable-work.ensures, c.requires.index.few); marks = after-marks a.book a.rows.now _ a.last a.bytes.now _ c.bootstrap_usable-work.result c.requires.usable (sym c.read_snapshot.ensures.value ∙ c.in-Ok.is) c.bootstrap_usable-work.ensures _ _ c.requires.index }
 
-pub returns-in-Refused : goal.returns-in-Refused
-returns-in-Refused c =
+pub returns-in-Err : goal.returns-in-Err
+returns-in-Err c =
     let a = c.args in
-    rw (c.unstarted.ensures, c.number.ensures) record { played = unread-played a.book (memory a.rows.now) a.last a.bytes.now _ c.requires.usable (sym c.read_snapshot.ensures.value ∙ c.in-Refused.is); plays = c.requires }
+    rw (c.unstarted.ensures, c.number.ensures) record { played = unread-played a.book (memory a.rows.now) a.last a.bytes.now _ c.requires.usable (sym c.read_snapshot.ensures.value ∙ c.in-Err.is); plays = c.requires }
 
-pub returns-in-Snapshot : goal.returns-in-Snapshot
-returns-in-Snapshot c =
+pub returns-in-Ok : goal.returns-in-Ok
+returns-in-Ok c =
     let a = c.args in
     let few = c.requires.index.few in
-    rw c.number-in-Snapshot.ensures record { played = snapshot-played a.book a.rows.now _ a.last a.bytes.now _ c.bootstrap_usable-work.result c.requires.usable (sym c.read_snapshot.ensures.value ∙ c.in-Snapshot.is) c.bootstrap_usable-work.ensures; plays = snapshot-plays a.book a.rows.now _ a.last a.bytes.now _ c.bootstrap_usable-work.result c.requires.usable (sym c.read_snapshot.ensures.value ∙ c.in-Snapshot.is) c.bootstrap_usable-work.ensures _ _ (omega (arith, c.index_after-bounds.auto.places)) c.index_after-bounds.ensures }
+    rw c.number-in-Ok.ensures record { played = snapshot-played a.book a.rows.now _ a.last a.bytes.now _ c.bootstrap_usable-work.result c.requires.usable (sym c.read_snapshot.ensures.value ∙ c.in-Ok.is) c.bootstrap_usable-work.ensures; plays = snapshot-plays a.book a.rows.now _ a.last a.bytes.now _ c.bootstrap_usable-work.result c.requires.usable (sym c.read_snapshot.ensures.value ∙ c.in-Ok.is) c.bootstrap_usable-work.ensures _ _ (omega (arith, c.index_after-bounds.auto.places)) c.index_after-bounds.ensures }

@@ -2,8 +2,8 @@ use mathlib.Core.Path.{sym}
 use Rattle.host_answers.proofs.Refusals.{view-refused}
 use Rattle.host_answers_best.proofs.store_last.Goals as goal
 
-pub returns-in-Valid : goal.returns-in-Valid
-returns-in-Valid c = rw c.in-Valid.is c.give.ensures
+pub returns-in-Ok : goal.returns-in-Ok
+returns-in-Ok c = rw c.in-Ok.is c.give.ensures
 
-pub returns-in-Refused : goal.returns-in-Refused
-returns-in-Refused c = rw (c.in-Refused.is, c.number.ensures) (sym (view-refused c.in-Refused.why _))
+pub returns-in-Err : goal.returns-in-Err
+returns-in-Err c = rw (c.in-Err.is, c.number.ensures) (sym (view-refused c.in-Err.why _))

@@ -6,18 +6,18 @@ use Rattle.reconstructor_checks.proofs.StateChecks.{said, said-none}
 use Rattle.host_answers.proofs.Refusals.{state-lastly}
 use Rattle.host_stale_levels.proofs.unwritten_stale.Goals as goal
 
-pub returns-in-Refused : goal.returns-in-Refused
+pub returns-in-Err : goal.returns-in-Err
 unfolding stale_read
-returns-in-Refused c = rw (said _ _ _ c.read_checks.ensures c.in-Refused.is, c.number.ensures) (sym (state-lastly c.in-Refused.why))
+returns-in-Err c = rw (said _ _ _ c.read_checks.ensures c.in-Err.is, c.number.ensures) (sym (state-lastly c.in-Err.why))
 
 pub returns-in-Empty : goal.returns-in-Empty
 unfolding stale_read
-returns-in-Empty c = rw (said-none _ _ c.read_checks.ensures c.in-Passed.is, c.in-Empty.is)
+returns-in-Empty c = rw (said-none _ _ c.read_checks.ensures c.in-Ok.is, c.in-Empty.is)
 
 pub returns-in-Valid : goal.returns-in-Valid
 unfolding stale_read
-returns-in-Valid c = rw (said-none _ _ c.read_checks.ensures c.in-Passed.is, c.in-Valid.is)
+returns-in-Valid c = rw (said-none _ _ c.read_checks.ensures c.in-Ok.is, c.in-Valid.is)
 
 pub returns-in-Invalidated : goal.returns-in-Invalidated
 unfolding stale_read
-returns-in-Invalidated c = rw (said-none _ _ c.read_checks.ensures c.in-Passed.is, c.in-Invalidated.is)
+returns-in-Invalidated c = rw (said-none _ _ c.read_checks.ensures c.in-Ok.is, c.in-Invalidated.is)

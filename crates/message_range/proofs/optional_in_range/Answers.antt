@@ -5,12 +5,12 @@ use borrow.Author.Rules.{rules}
 use Rattle.message.specs.Values.{in_range, optional_in_range}
 use Rattle.message_range.proofs.optional_in_range.Goals as goal
 
-pub returns-in-Absent : goal.returns-in-Absent
+pub returns-in-None : goal.returns-in-None
 unfolding optional_in_range
-returns-in-Absent c = rw c.in-Absent.is
+returns-in-None c = rw c.in-None.is
 
-pub returns-in-Given : goal.returns-in-Given
+pub returns-in-Some : goal.returns-in-Some
 unfolding optional_in_range
-returns-in-Given c =
-    let e : to_z w64 (of_z w64 c.in-Given.a) ≡ c.in-Given.a = search rules in
-    rw c.in-Given.is (c.in_range.ensures ∙ ap in_range e)
+returns-in-Some c =
+    let e : to_z w64 (of_z w64 c.in-Some.a) ≡ c.in-Some.a = search rules in
+    rw c.in-Some.is (c.in_range.ensures ∙ ap in_range e)

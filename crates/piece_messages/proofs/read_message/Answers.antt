@@ -13,8 +13,8 @@ returns-in_default c = rw (← c.read_event.ensures, c.in_default.is) record { v
 
 pub returns-then-event_in_range : goal.returns-then-event_in_range
 unfolding read_message message_of
-returns-then-event_in_range c = rw (← c.read_event.ensures, c.in-Event.is, ← c.event_in_range.ensures, c.if-event_in_range.true, c.read_le64-then-event_in_range.ensures, c.read_le64.ensures, c.read_product_id.ensures) record { value = refl; told = refl }
+returns-then-event_in_range c = rw (← c.read_event.ensures, c.in-Some.is, ← c.event_in_range.ensures, c.if-event_in_range.true, c.read_le64-then-event_in_range.ensures, c.read_le64.ensures, c.read_product_id.ensures) record { value = refl; told = refl }
 
 pub returns-else-event_in_range : goal.returns-else-event_in_range
 unfolding read_message message_of
-returns-else-event_in_range c = rw (← c.read_event.ensures, c.in-Event.is, ← c.event_in_range.ensures, c.if-event_in_range.false) record { value = refl; told = refl }
+returns-else-event_in_range c = rw (← c.read_event.ensures, c.in-Some.is, ← c.event_in_range.ensures, c.if-event_in_range.false) record { value = refl; told = refl }

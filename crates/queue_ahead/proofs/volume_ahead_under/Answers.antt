@@ -12,32 +12,32 @@ pub returns-then-list_short : goal.returns-then-list_short
 unfolding ahead_refusal ahead_of check first
 returns-then-list_short c =
     let a = c.args in
-    let v = found-valid a.top a.book (memory a.rows.now) false _ c.valid_book.ensures _ c.in-Valid.is in
+    let v = found-valid a.top a.book (memory a.rows.now) false _ c.valid_book.ensures _ c.in-Ok.is in
     rw (v.0, ← c.list_short.ensures, c.if-list_short.true)
 
 pub returns-then-is_stale : goal.returns-then-is_stale
 unfolding ahead_refusal ahead_of check first
 returns-then-is_stale c =
     let a = c.args in
-    let v = found-valid a.top a.book (memory a.rows.now) false _ c.valid_book.ensures _ c.in-Valid.is in
+    let v = found-valid a.top a.book (memory a.rows.now) false _ c.valid_book.ensures _ c.in-Ok.is in
     rw (v.0, ← c.list_short.ensures, c.if-list_short.false, ← c.is_stale.ensures, c.if-is_stale.true)
 
 pub anchor_ahead-requires : goal.anchor_ahead-requires
 anchor_ahead-requires c =
     let a = c.args in
     let m = memory a.rows.now in
-    let v = found-valid a.top a.book m false _ c.valid_book.ensures _ c.in-Valid.is in
+    let v = found-valid a.top a.book m false _ c.valid_book.ensures _ c.in-Ok.is in
     record { lent = (rows-ready a.top a.book m c.requires v.2.trusted, (sound a.book m v.2.trusted.sound).formed.sound); ahead_value = sym c.list_short.ensures ∙ c.if-list_short.false }
 
-pub returns-in-Refused : goal.returns-in-Refused
+pub returns-in-Err : goal.returns-in-Err
 unfolding ahead_refusal ahead_of check first
-returns-in-Refused c =
+returns-in-Err c =
     let a = c.args in
-    rw (refused-for a.top a.book (memory a.rows.now) false _ c.valid_book.ensures _ c.in-Refused.is)
+    rw (refused-for a.top a.book (memory a.rows.now) false _ c.valid_book.ensures _ c.in-Err.is)
 
 pub returns-else-is_stale : goal.returns-else-is_stale
 unfolding ahead_refusal ahead_of check first
 returns-else-is_stale c =
     let a = c.args in
-    let v = found-valid a.top a.book (memory a.rows.now) false _ c.valid_book.ensures _ c.in-Valid.is in
+    let v = found-valid a.top a.book (memory a.rows.now) false _ c.valid_book.ensures _ c.in-Ok.is in
     rw (v.0, ← c.list_short.ensures, c.if-list_short.false, ← c.is_stale.ensures, c.if-is_stale.false) (c.anchor_ahead.ensures ∙ ap (λ t. anchor_ahead a.book.rules.size_decrease t a.estimate a.estimate.anchor a.ahead.now (orders_of (memory a.rows.now) a.book.rows)) v.1)

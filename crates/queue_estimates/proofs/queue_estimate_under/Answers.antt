@@ -19,14 +19,14 @@ pub order_count-orders-requires : goal.order_count-orders-requires
 order_count-orders-requires c =
     let a = c.args in
     let m = memory a.rows.now in
-    let v = found-valid a.top a.book m false _ c.valid_book.ensures _ c.in-Valid.is in
+    let v = found-valid a.top a.book m false _ c.valid_book.ensures _ c.in-Ok.is in
     rows-ready a.top a.book m c.requires v.2.trusted
 
 pub returns-then-ahead-orders : goal.returns-then-ahead-orders
 unfolding estimated
 returns-then-ahead-orders c =
     let a = c.args in
-    let v = found-valid a.top a.book (memory a.rows.now) false _ c.valid_book.ensures _ c.in-Valid.is in
+    let v = found-valid a.top a.book (memory a.rows.now) false _ c.valid_book.ensures _ c.in-Ok.is in
     let os = rows_at a.side c.size_of-at.result (orders_of (memory a.rows.now) a.book.rows) in
     let e : length os ≡ c.order_count-orders.result = sym c.order_count-orders.ensures in
     let z = sized a.price c.size_of-at.ensures c.ranges.price in
@@ -36,21 +36,21 @@ pub write_orders-requires : goal.write_orders-requires
 write_orders-requires c =
     let a = c.args in
     let m = memory a.rows.now in
-    let v = found-valid a.top a.book m false _ c.valid_book.ensures _ c.in-Valid.is in
+    let v = found-valid a.top a.book m false _ c.valid_book.ensures _ c.in-Ok.is in
     let os = rows_at a.side c.size_of-at.result (orders_of m a.book.rows) in
     (rows-ready a.top a.book m c.requires v.2.trusted, omega (arith, width-entries Ahead os, c.order_count-orders.ensures, c.if-ahead-orders.false))
 
-pub returns-in-Refused : goal.returns-in-Refused
+pub returns-in-Err : goal.returns-in-Err
 unfolding estimated
-returns-in-Refused c =
+returns-in-Err c =
     let a = c.args in
-    rw (refused-for a.top a.book (memory a.rows.now) false _ c.valid_book.ensures _ c.in-Refused.is)
+    rw (refused-for a.top a.book (memory a.rows.now) false _ c.valid_book.ensures _ c.in-Err.is)
 
 pub returns-else-ahead-orders : goal.returns-else-ahead-orders
 unfolding estimated
 returns-else-ahead-orders c =
     let a = c.args in
-    let v = found-valid a.top a.book (memory a.rows.now) false _ c.valid_book.ensures _ c.in-Valid.is in
+    let v = found-valid a.top a.book (memory a.rows.now) false _ c.valid_book.ensures _ c.in-Ok.is in
     let os = rows_at a.side c.size_of-at.result (orders_of (memory a.rows.now) a.book.rows) in
     let e : length os ≡ c.order_count-orders.result = sym c.order_count-orders.ensures in
     let z = sized a.price c.size_of-at.ensures c.ranges.price in
@@ -60,6 +60,6 @@ pub overflow_mul-orders : goal.overflow_mul-orders
 overflow_mul-orders c =
     let a = c.args in
     let m = memory a.rows.now in
-    let v = found-valid a.top a.book m false _ c.valid_book.ensures _ c.in-Valid.is in
+    let v = found-valid a.top a.book m false _ c.valid_book.ensures _ c.in-Ok.is in
     let l = rows-ready a.top a.book m c.requires v.2.trusted in
     record { fits = omega (arith, c.order_count-orders.ensures, at_most a.side c.size_of-at.result (orders_of m a.book.rows), length-rows a.rows.now 0 a.book.rows, l.few) }

@@ -11,14 +11,14 @@ pub resting-requires : goal.resting-requires
 resting-requires c =
     let a = c.args in
     let m = memory a.rows.now in
-    let v = found-valid a.top a.book m false _ c.valid_book.ensures _ c.in-Valid.is in
+    let v = found-valid a.top a.book m false _ c.valid_book.ensures _ c.in-Ok.is in
     rows-ready a.top a.book m c.requires v.2.trusted
 
 pub returns-in_default : goal.returns-in_default
 unfolding own_viewed
 returns-in_default c =
     let a = c.args in
-    let v = found-valid a.top a.book (memory a.rows.now) false _ c.valid_book.ensures _ c.in-Valid.is in
+    let v = found-valid a.top a.book (memory a.rows.now) false _ c.valid_book.ensures _ c.in-Ok.is in
     let w = rw c.in_default.is at c.resting.ensures in
     rw (v.0, w)
 
@@ -26,28 +26,28 @@ pub returns-then-place_unknown : goal.returns-then-place_unknown
 unfolding own_viewed
 returns-then-place_unknown c =
     let a = c.args in
-    let v = found-valid a.top a.book (memory a.rows.now) false _ c.valid_book.ensures _ c.in-Valid.is in
-    let w = rw c.in-Row.is at c.resting.ensures in
+    let v = found-valid a.top a.book (memory a.rows.now) false _ c.valid_book.ensures _ c.in-Ok.is in
+    let w = rw c.in-Some.is at c.resting.ensures in
     rw (v.0, w, ← c.place_unknown.ensures, c.if-place_unknown.true)
 
 pub own_estimate-requires : goal.own_estimate-requires
 own_estimate-requires c =
     let a = c.args in
     let m = memory a.rows.now in
-    let v = found-valid a.top a.book m false _ c.valid_book.ensures _ c.in-Valid.is in
-    let w = rw c.in-Row.is at c.resting.ensures in
+    let v = found-valid a.top a.book m false _ c.valid_book.ensures _ c.in-Ok.is in
+    let w = rw c.in-Some.is at c.resting.ensures in
     price_most _ (with-sound a.order_id (orders_of m a.book.rows) _ (sound a.book m v.2.trusted.sound).formed.sound w)
 
-pub returns-in-Refused : goal.returns-in-Refused
+pub returns-in-Err : goal.returns-in-Err
 unfolding own_viewed
-returns-in-Refused c =
+returns-in-Err c =
     let a = c.args in
-    rw (refused-for a.top a.book (memory a.rows.now) false _ c.valid_book.ensures _ c.in-Refused.is)
+    rw (refused-for a.top a.book (memory a.rows.now) false _ c.valid_book.ensures _ c.in-Err.is)
 
 pub returns-else-place_unknown : goal.returns-else-place_unknown
 unfolding own_viewed
 returns-else-place_unknown c =
     let a = c.args in
-    let v = found-valid a.top a.book (memory a.rows.now) false _ c.valid_book.ensures _ c.in-Valid.is in
-    let w = rw c.in-Row.is at c.resting.ensures in
+    let v = found-valid a.top a.book (memory a.rows.now) false _ c.valid_book.ensures _ c.in-Ok.is in
+    let w = rw c.in-Some.is at c.resting.ensures in
     rw (v.0, w, ← c.place_unknown.ensures, c.if-place_unknown.false, c.own_estimate.ensures)

@@ -5,10 +5,10 @@ use Rattle.queue.proofs.Ahead.{row-found, row_missed}
 use Rattle.queue_place.proofs.resting.Goals as goal
 
 pub get_row-requires : goal.get_row-requires
-get_row-requires c = let f = found_at c.args.rows.now c.args.n c.args.id _ (sym c.find.ensures ∙ c.in-At.is) in (omega (arith, f.inside, c.requires.room), omega (arith, f.inside, c.requires.few))
+get_row-requires c = let f = found_at c.args.rows.now c.args.n c.args.id _ (sym c.find.ensures ∙ c.in-Some.is) in (omega (arith, f.inside, c.requires.room), omega (arith, f.inside, c.requires.few))
 
-pub returns-in-At : goal.returns-in-At
-returns-in-At c = rw c.get_row.ensures (row-found c.args.rows.now c.args.n c.args.id _ c.find.ensures _ c.in-At.is)
+pub returns-in-Some : goal.returns-in-Some
+returns-in-Some c = rw c.get_row.ensures (row-found c.args.rows.now c.args.n c.args.id _ c.find.ensures _ c.in-Some.is)
 
-pub returns-in-Nothing : goal.returns-in-Nothing
-returns-in-Nothing c = row_missed c.args.rows.now c.args.n c.args.id _ c.find.ensures c.in-Nothing.is
+pub returns-in-None : goal.returns-in-None
+returns-in-None c = row_missed c.args.rows.now c.args.n c.args.id _ c.find.ensures c.in-None.is

@@ -9,12 +9,12 @@ use Rattle.reconstructor_apply.proofs.apply_under.Goals as goal
 pub apply_trusted-requires : goal.apply_trusted-requires
 apply_trusted-requires c =
     let a = c.args in
-    trusted_under a.top a.book (memory a.rows.now) a.lent c.requires (usable a.top a.book (memory a.rows.now) a.lent (said-none _ _ c.own_checks.ensures c.in-Passed.is))
+    trusted_under a.top a.book (memory a.rows.now) a.lent c.requires (usable a.top a.book (memory a.rows.now) a.lent (said-none _ _ c.own_checks.ensures c.in-Ok.is))
 
-pub returns-in-Refused : goal.returns-in-Refused
+pub returns-in-Err : goal.returns-in-Err
 unfolding applied_to after_gate gate_refusal
-returns-in-Refused c = rw (first-fails _ _ _ _ (said _ _ _ c.own_checks.ensures c.in-Refused.is), c.work_of.ensures, c.refused.ensures)
+returns-in-Err c = rw (first-fails _ _ _ _ (said _ _ _ c.own_checks.ensures c.in-Err.is), c.work_of.ensures, c.refused.ensures)
 
-pub returns-in-Passed : goal.returns-in-Passed
+pub returns-in-Ok : goal.returns-in-Ok
 unfolding applied_to gate_refusal
-returns-in-Passed c = rw (first_on _ _ _ _ (said-none _ _ c.own_checks.ensures c.in-Passed.is) refl) c.apply_trusted.ensures
+returns-in-Ok c = rw (first_on _ _ _ _ (said-none _ _ c.own_checks.ensures c.in-Ok.is) refl) c.apply_trusted.ensures

@@ -24,19 +24,19 @@ validate_snapshot-requires c = orders-within most_rows c.args.book.rules c.requi
 pub accept-requires : goal.accept-requires
 accept-requires c =
     let a = c.args in
-    let none = said-none _ c.validate_snapshot.result c.validate_snapshot.ensures c.in-Fits.is in
+    let none = said-none _ c.validate_snapshot.result c.validate_snapshot.ensures c.in-Ok.is in
     let room = segment-room a.book (memory a.rows.now) a.lent c.requires c.if-lent-book.false in record { room = room_for a.book (memory a.rows.now) a.lent c.requires (a.snapshot.bids + a.snapshot.asks) (few-orders a.book.product_id a.book.rules a.snapshot (snapshot_line a.snapshot a.bytes.now) none); segments_lt_largest = omega (arith, room, c.ranges) }
 
-pub returns-in-Fits : goal.returns-in-Fits
-returns-in-Fits c =
+pub returns-in-Ok : goal.returns-in-Ok
+returns-in-Ok c =
     let a = c.args in
     c.accept.ensures
     ∙ snapshot-fits a.book (memory a.rows.now) a.lent a.last a.bytes.now a.snapshot c.if-lent-book.false
-    (said-none _ c.validate_snapshot.result c.validate_snapshot.ensures c.in-Fits.is)
+    (said-none _ c.validate_snapshot.result c.validate_snapshot.ensures c.in-Ok.is)
 
-pub returns-in-Refused : goal.returns-in-Refused
-returns-in-Refused c =
+pub returns-in-Err : goal.returns-in-Err
+returns-in-Err c =
     let a = c.args in
-    ap (λ w. booted w (memory a.rows.now)) c.refused-in-Refused.ensures
+    ap (λ w. booted w (memory a.rows.now)) c.refused-in-Err.ensures
     ∙ snapshot-refused a.book (memory a.rows.now) a.lent a.last a.bytes.now a.snapshot c.if-lent-book.false _
-    (said _ c.validate_snapshot.result _ c.validate_snapshot.ensures c.in-Refused.is)
+    (said _ c.validate_snapshot.result _ c.validate_snapshot.ensures c.in-Err.is)

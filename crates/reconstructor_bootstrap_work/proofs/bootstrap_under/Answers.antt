@@ -8,25 +8,25 @@ use Rattle.reconstructor_checks.proofs.StateChecks.{said, said-none, usable, usa
 use Rattle.reconstructor_bootstrap.proofs.Whole.{unusable, not-read, read}
 use Rattle.reconstructor_bootstrap_work.proofs.bootstrap_under.Goals as goal
 
-pub returns-in-Refused : goal.returns-in-Refused
-returns-in-Refused c =
+pub returns-in-Err : goal.returns-in-Err
+returns-in-Err c =
     let a = c.args in
     ap (λ w. booted w (memory a.rows.now)) c.refused.ensures
-    ∙ unusable a.top a.book (memory a.rows.now) a.lent a.last a.bytes.now _ (said _ c.own_checks-checked.result _ c.own_checks-checked.ensures c.in-Refused.is)
+    ∙ unusable a.top a.book (memory a.rows.now) a.lent a.last a.bytes.now _ (said _ c.own_checks-checked.result _ c.own_checks-checked.ensures c.in-Err.is)
 
 pub bootstrap_usable-requires : goal.bootstrap_usable-requires
 bootstrap_usable-requires c =
     let a = c.args in
     usable_under a.top a.book (memory a.rows.now) a.lent c.requires (usable a.top a.book (memory a.rows.now) a.lent (said-none (book_refusal a.top a.book (memory a.rows.now) a.lent) c.own_checks-checked.result c.own_checks-checked.ensures c.in_default.is))
 
-pub returns-in-Snapshot : goal.returns-in-Snapshot
-returns-in-Snapshot c =
+pub returns-in-Ok : goal.returns-in-Ok
+returns-in-Ok c =
     let a = c.args in
     c.bootstrap_usable.ensures
-    ∙ read a.top a.book (memory a.rows.now) a.lent a.last a.bytes.now (said-none (book_refusal a.top a.book (memory a.rows.now) a.lent) c.own_checks-checked.result c.own_checks-checked.ensures c.in_default.is) _ (sym c.read_snapshot.ensures.value ∙ c.in-Snapshot.is)
+    ∙ read a.top a.book (memory a.rows.now) a.lent a.last a.bytes.now (said-none (book_refusal a.top a.book (memory a.rows.now) a.lent) c.own_checks-checked.result c.own_checks-checked.ensures c.in_default.is) _ (sym c.read_snapshot.ensures.value ∙ c.in-Ok.is)
 
-pub returns-in-Refused-read_snapshot : goal.returns-in-Refused-read_snapshot
-returns-in-Refused-read_snapshot c =
+pub returns-in-Err-read_snapshot : goal.returns-in-Err-read_snapshot
+returns-in-Err-read_snapshot c =
     let a = c.args in
-    ap (λ w. booted w (memory a.rows.now)) (c.refused-in-Refused-read_snapshot.ensures ∙ ap (λ x. refused_work x a.book a.lent a.last) c.piece_answer.ensures)
-    ∙ not-read a.top a.book (memory a.rows.now) a.lent a.last a.bytes.now (said-none (book_refusal a.top a.book (memory a.rows.now) a.lent) c.own_checks-checked.result c.own_checks-checked.ensures c.in_default.is) _ (sym c.read_snapshot.ensures.value ∙ c.in-Refused-read_snapshot.is)
+    ap (λ w. booted w (memory a.rows.now)) (c.refused-in-Err-read_snapshot.ensures ∙ ap (λ x. refused_work x a.book a.lent a.last) c.piece_answer.ensures)
+    ∙ not-read a.top a.book (memory a.rows.now) a.lent a.last a.bytes.now (said-none (book_refusal a.top a.book (memory a.rows.now) a.lent) c.own_checks-checked.result c.own_checks-checked.ensures c.in_default.is) _ (sym c.read_snapshot.ensures.value ∙ c.in-Err-read_snapshot.is)

@@ -1,12 +1,12 @@
 -- The search finds the order that `find` has in the line, or both find none; then the tests are those of `change_refusal`, in its order. Past them the new size
 -- is equal to what is left, and nothing is done, or smaller, and a cut of the found row is `cut_rows` by its id (`cut-outcome`).
+use Rattle.std.specs.Prelude.{Some}
 use mathlib.Core.Path.{◌≡◌, ◌∙◌, ap, refl}
 use native.Mathlib.Omega.{arith}
 use borrow.Author.Tests.{eq-eqb, ne_eqb, lt-ltb, le-ltb}
 use mir.Syntax.{w64}
 use mir.Val.{to_z, of_z}
 use borrow.Author.Rules.{rules}
-use Rattle.book.specs.declared.Decrease.TheVariants.{Marked}
 use Rattle.reconstructor_counts.specs.declared.Counter.TheVariants.{Stp}
 use Rattle.message.specs.Amounts.{nat_of}
 use Rattle.reconstructor_plan.specs.Rules.{event_refusal, change_refusal, size_refusal, event_deed, effect, counter_of}
@@ -20,71 +20,71 @@ returns-in_default c = λ v. rw (no_row _ _ _ _ c.find.ensures c.in_default.is) 
 
 pub get_row-order-requires : goal.get_row-order-requires
 get_row-order-requires c =
-    let k = (at_row _ _ _ _ c.find.ensures _ c.in-At.is).inside in
+    let k = (at_row _ _ _ _ c.find.ensures _ c.in-Some.is).inside in
     (omega arith, omega arith)
 
 pub returns-then-is_modify : goal.returns-then-is_modify
 unfolding event_refusal change_refusal size_refusal event_deed effect counter_of
 returns-then-is_modify c =
-    let f = row-entry _ _ _ _ c.find.ensures _ c.get_row-order.result c.in-At.is c.get_row-order.ensures in
+    let f = row-entry _ _ _ _ c.find.ensures _ c.get_row-order.result c.in-Some.is c.get_row-order.ensures in
     λ v. rw f (search links depth 20)
 
 pub returns-then-change_differs : goal.returns-then-change_differs
 unfolding event_refusal change_refusal size_refusal event_deed effect counter_of
 returns-then-change_differs c =
-    let f = row-entry _ _ _ _ c.find.ensures _ c.get_row-order.result c.in-At.is c.get_row-order.ensures in
+    let f = row-entry _ _ _ _ c.find.ensures _ c.get_row-order.result c.in-Some.is c.get_row-order.ensures in
     λ v. rw f (search links depth 20)
 
 pub returns-then-given_differs : goal.returns-then-given_differs
 unfolding event_refusal change_refusal size_refusal event_deed effect counter_of
 returns-then-given_differs c =
-    let f = row-entry _ _ _ _ c.find.ensures _ c.get_row-order.result c.in-At.is c.get_row-order.ensures in
+    let f = row-entry _ _ _ _ c.find.ensures _ c.get_row-order.result c.in-Some.is c.get_row-order.ensures in
     λ v. rw f (search links depth 20)
 
 pub returns-in_default-new_size : goal.returns-in_default-new_size
 unfolding event_refusal change_refusal size_refusal event_deed effect counter_of
 returns-in_default-new_size c =
-    let f = row-entry _ _ _ _ c.find.ensures _ c.get_row-order.result c.in-At.is c.get_row-order.ensures in
+    let f = row-entry _ _ _ _ c.find.ensures _ c.get_row-order.result c.in-Some.is c.get_row-order.ensures in
     λ v. rw (f, c.in_default-new_size.is, c.reason_of.ensures)
     (goes_on _ _ _ _ (told-false c.is_modify.ensures c.if-is_modify.false) (goes_on _ _ _ _ (told-false c.change_differs.ensures c.if-change_differs.false) (goes_on _ _ _ _ (told-false c.given_differs.ensures c.if-given_differs.false) (refl))))
 
 pub returns-then-is_negative : goal.returns-then-is_negative
 unfolding event_refusal change_refusal size_refusal event_deed effect counter_of
 returns-then-is_negative c =
-    let e : to_z w64 (of_z w64 c.in-Given.size) ≡ c.in-Given.size = search rules in
-    let f = row-entry _ _ _ _ c.find.ensures _ c.get_row-order.result c.in-At.is c.get_row-order.ensures in
+    let e : to_z w64 (of_z w64 c.in-Some.size) ≡ c.in-Some.size = search rules in
+    let f = row-entry _ _ _ _ c.find.ensures _ c.get_row-order.result c.in-Some.is c.get_row-order.ensures in
     let n = rw e at c.is_negative.ensures in
-    λ v. rw (f, c.in-Given.is)
+    λ v. rw (f, c.in-Some.is)
     (goes_on _ _ _ _ (told-false c.is_modify.ensures c.if-is_modify.false) (goes_on _ _ _ _ (told-false c.change_differs.ensures c.if-change_differs.false) (goes_on _ _ _ _ (told-false c.given_differs.ensures c.if-given_differs.false) (fails _ _ _ (told-true n c.if-is_negative.true)))))
 
 pub returns-then-order-left : goal.returns-then-order-left
 unfolding event_refusal change_refusal size_refusal event_deed effect counter_of
 returns-then-order-left c =
-    let e : to_z w64 (of_z w64 c.in-Given.size) ≡ c.in-Given.size = search rules in
-    let f = row-entry _ _ _ _ c.find.ensures _ c.get_row-order.result c.in-At.is c.get_row-order.ensures in
+    let e : to_z w64 (of_z w64 c.in-Some.size) ≡ c.in-Some.size = search rules in
+    let f = row-entry _ _ _ _ c.find.ensures _ c.get_row-order.result c.in-Some.is c.get_row-order.ensures in
     let n = rw e at c.is_negative.ensures in
     let q = c.size_of-left.ensures ∙ ap nat_of e in
-    λ v. rw (f, c.in-Given.is, ← q)
+    λ v. rw (f, c.in-Some.is, ← q)
     (goes_on _ _ _ _ (told-false c.is_modify.ensures c.if-is_modify.false) (goes_on _ _ _ _ (told-false c.change_differs.ensures c.if-change_differs.false) (goes_on _ _ _ _ (told-false c.given_differs.ensures c.if-given_differs.false) (goes_on _ _ _ _ (told-false n c.if-is_negative.false) (fails _ _ _ (lt-ltb _ _ c.if-order-left.true))))))
 
 pub returns-then-left-order : goal.returns-then-left-order
 unfolding event_refusal change_refusal size_refusal event_deed effect counter_of
 returns-then-left-order c =
-    let e : to_z w64 (of_z w64 c.in-Given.size) ≡ c.in-Given.size = search rules in
-    let f = row-entry _ _ _ _ c.find.ensures _ c.get_row-order.result c.in-At.is c.get_row-order.ensures in
+    let e : to_z w64 (of_z w64 c.in-Some.size) ≡ c.in-Some.size = search rules in
+    let f = row-entry _ _ _ _ c.find.ensures _ c.get_row-order.result c.in-Some.is c.get_row-order.ensures in
     let n = rw e at c.is_negative.ensures in
     let q = c.size_of-left.ensures ∙ ap nat_of e in
-    λ v. rw (f, c.in-Given.is, ← q, eq-eqb _ _ c.if-left-order.true)
+    λ v. rw (f, c.in-Some.is, ← q, eq-eqb _ _ c.if-left-order.true)
     (goes_on _ _ _ _ (told-false c.is_modify.ensures c.if-is_modify.false) (goes_on _ _ _ _ (told-false c.change_differs.ensures c.if-change_differs.false) (goes_on _ _ _ _ (told-false c.given_differs.ensures c.if-given_differs.false) (goes_on _ _ _ _ (told-false n c.if-is_negative.false) (goes_on _ _ _ _ (le-ltb _ _ c.if-order-left.false) (refl))))), refl, tt)
 
 pub returns : goal.returns
 unfolding event_refusal change_refusal size_refusal event_deed effect counter_of
 returns c =
-    let e : to_z w64 (of_z w64 c.in-Given.size) ≡ c.in-Given.size = search rules in
-    let f = row-entry _ _ _ _ c.find.ensures _ c.get_row-order.result c.in-At.is c.get_row-order.ensures in
+    let e : to_z w64 (of_z w64 c.in-Some.size) ≡ c.in-Some.size = search rules in
+    let f = row-entry _ _ _ _ c.find.ensures _ c.get_row-order.result c.in-Some.is c.get_row-order.ensures in
     let n = rw e at c.is_negative.ensures in
     let q = c.size_of-left.ensures ∙ ap nat_of e in
-    let k = at_row _ _ _ _ c.find.ensures _ c.in-At.is in
-    let g = cut-outcome c.args.rows.now c.args.n c.args.order_id _ k c.size_of-left.result (Marked c.args.seq) Stp in
-    let h = cut_fits c.args.rows.now c.args.n c.args.order_id _ k c.size_of-left.result (Marked c.args.seq) Stp in
-    λ v. (rw (f, c.in-Given.is, ← q) (goes_on _ _ _ _ (told-false c.is_modify.ensures c.if-is_modify.false) (goes_on _ _ _ _ (told-false c.change_differs.ensures c.if-change_differs.false) (goes_on _ _ _ _ (told-false c.given_differs.ensures c.if-given_differs.false) (goes_on _ _ _ _ (told-false n c.if-is_negative.false) (goes_on _ _ _ _ (le-ltb _ _ c.if-order-left.false) (refl)))))), rw (c.cut_plan.ensures, f, c.in-Given.is, ← q, ne_eqb _ _ c.if-left-order.false) g, rw c.cut_plan.ensures h)
+    let k = at_row _ _ _ _ c.find.ensures _ c.in-Some.is in
+    let g = cut-outcome c.args.rows.now c.args.n c.args.order_id _ k c.size_of-left.result (Some c.args.seq) Stp in
+    let h = cut_fits c.args.rows.now c.args.n c.args.order_id _ k c.size_of-left.result (Some c.args.seq) Stp in
+    λ v. (rw (f, c.in-Some.is, ← q) (goes_on _ _ _ _ (told-false c.is_modify.ensures c.if-is_modify.false) (goes_on _ _ _ _ (told-false c.change_differs.ensures c.if-change_differs.false) (goes_on _ _ _ _ (told-false c.given_differs.ensures c.if-given_differs.false) (goes_on _ _ _ _ (told-false n c.if-is_negative.false) (goes_on _ _ _ _ (le-ltb _ _ c.if-order-left.false) (refl)))))), rw (c.cut_plan.ensures, f, c.in-Some.is, ← q, ne_eqb _ _ c.if-left-order.false) g, rw c.cut_plan.ensures h)

@@ -17,28 +17,28 @@ pub returns-then-p-eq0 : goal.returns-then-p-eq0
 unfolding event_refusal open_refusal event_deed effect counter_of
 returns-then-p-eq0 c =
     let p = sized _ c.size_of-p.ensures c.ranges.price in
-    rw (no_row _ _ _ _ c.find.ensures c.in-Nothing.is, ← p) (search links depth 20)
+    rw (no_row _ _ _ _ c.find.ensures c.in-None.is, ← p) (search links depth 20)
 
 pub returns-then-q-eq0 : goal.returns-then-q-eq0
 unfolding event_refusal open_refusal event_deed effect counter_of
 returns-then-q-eq0 c =
     let p = sized _ c.size_of-p.ensures c.ranges.price in
     let q = sized _ c.size_of-q.ensures c.ranges.remaining in
-    rw (no_row _ _ _ _ c.find.ensures c.in-Nothing.is, ← p, ← q) (search links depth 20)
+    rw (no_row _ _ _ _ c.find.ensures c.in-None.is, ← p, ← q) (search links depth 20)
 
 pub returns-then-would_cross : goal.returns-then-would_cross
 unfolding event_refusal open_refusal event_deed effect counter_of
 returns-then-would_cross c =
     let p = sized _ c.size_of-p.ensures c.ranges.price in
     let q = sized _ c.size_of-q.ensures c.ranges.remaining in
-    rw (no_row _ _ _ _ c.find.ensures c.in-Nothing.is, ← p, ← q) (search links depth 20)
+    rw (no_row _ _ _ _ c.find.ensures c.in-None.is, ← p, ← q) (search links depth 20)
 
 pub returns-then-n-rules : goal.returns-then-n-rules
 unfolding event_refusal open_refusal event_deed effect counter_of
 returns-then-n-rules c =
     let p = sized _ c.size_of-p.ensures c.ranges.price in
     let q = sized _ c.size_of-q.ensures c.ranges.remaining in
-    rw (no_row _ _ _ _ c.find.ensures c.in-Nothing.is, ← p, ← q, line-length c.args.rows.now c.args.n)
+    rw (no_row _ _ _ _ c.find.ensures c.in-None.is, ← p, ← q, line-length c.args.rows.now c.args.n)
     (goes_on _ _ _ _ (refl) (goes_on _ _ _ _ (ne_eqb _ _ c.if-p-eq0.false) (goes_on _ _ _ _ (ne_eqb _ _ c.if-q-eq0.false) (goes_on _ _ _ _ (told-false c.would_cross.ensures c.if-would_cross.false) (fails _ _ _ (le-leb _ _ c.if-n-rules.true))))))
 
 pub returns-then-no_room : goal.returns-then-no_room
@@ -46,7 +46,7 @@ unfolding event_refusal open_refusal event_deed effect counter_of
 returns-then-no_room c =
     let p = sized _ c.size_of-p.ensures c.ranges.price in
     let q = sized _ c.size_of-q.ensures c.ranges.remaining in
-    rw (no_row _ _ _ _ c.find.ensures c.in-Nothing.is, ← p, ← q, line-length c.args.rows.now c.args.n)
+    rw (no_row _ _ _ _ c.find.ensures c.in-None.is, ← p, ← q, line-length c.args.rows.now c.args.n)
     (goes_on _ _ _ _ (refl) (goes_on _ _ _ _ (ne_eqb _ _ c.if-p-eq0.false) (goes_on _ _ _ _ (ne_eqb _ _ c.if-q-eq0.false) (goes_on _ _ _ _ (told-false c.would_cross.ensures c.if-would_cross.false) (goes_on _ _ _ _ (lt-leb _ _ c.if-n-rules.false) (fails _ _ _ (told-true c.no_room.ensures c.if-no_room.true)))))))
 
 pub returns : goal.returns
@@ -54,5 +54,5 @@ unfolding event_refusal open_refusal event_deed effect counter_of
 returns c =
     let p = sized _ c.size_of-p.ensures c.ranges.price in
     let q = sized _ c.size_of-q.ensures c.ranges.remaining in
-    rw (no_row _ _ _ _ c.find.ensures c.in-Nothing.is, ← p, ← q, line-length c.args.rows.now c.args.n, c.observed_row.ensures)
+    rw (no_row _ _ _ _ c.find.ensures c.in-None.is, ← p, ← q, line-length c.args.rows.now c.args.n, c.observed_row.ensures)
     (goes_on _ _ _ _ (refl) (goes_on _ _ _ _ (ne_eqb _ _ c.if-p-eq0.false) (goes_on _ _ _ _ (ne_eqb _ _ c.if-q-eq0.false) (goes_on _ _ _ _ (told-false c.would_cross.ensures c.if-would_cross.false) (goes_on _ _ _ _ (lt-leb _ _ c.if-n-rules.false) (goes_on _ _ _ _ (told-false c.no_room.ensures c.if-no_room.false) (refl)))))), refl, (omega (arith, c.requires.ready.room, c.if-n-rules.false), omega (arith, c.requires.ready.small, c.if-n-rules.false)))

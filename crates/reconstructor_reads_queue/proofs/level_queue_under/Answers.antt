@@ -13,19 +13,19 @@ pub show_queue-requires : goal.show_queue-requires
 show_queue-requires c =
     let a = c.args in
     let m = memory a.rows.now in
-    let v = found-valid a.top a.book m (scratch_short a.book a.scratch.now) _ c.valid_book.ensures _ c.in-Valid.is in
+    let v = found-valid a.top a.book m (scratch_short a.book a.scratch.now) _ c.valid_book.ensures _ c.in-Ok.is in
     (rows-ready a.top a.book m c.requires v.2.trusted, ltb-false _ _ v.2.room)
 
-pub returns-in-Refused : goal.returns-in-Refused
+pub returns-in-Err : goal.returns-in-Err
 unfolding level_read
-returns-in-Refused c =
+returns-in-Err c =
     let a = c.args in
-    rw (refused-for a.top a.book (memory a.rows.now) (scratch_short a.book a.scratch.now) _ c.valid_book.ensures _ c.in-Refused.is)
+    rw (refused-for a.top a.book (memory a.rows.now) (scratch_short a.book a.scratch.now) _ c.valid_book.ensures _ c.in-Err.is)
 
-pub returns-in-Valid : goal.returns-in-Valid
+pub returns-in-Ok : goal.returns-in-Ok
 unfolding level_read
-returns-in-Valid c =
+returns-in-Ok c =
     let a = c.args in
-    let v = found-valid a.top a.book (memory a.rows.now) (scratch_short a.book a.scratch.now) _ c.valid_book.ensures _ c.in-Valid.is in
+    let v = found-valid a.top a.book (memory a.rows.now) (scratch_short a.book a.scratch.now) _ c.valid_book.ensures _ c.in-Ok.is in
     let z = sized a.price c.size_of-at.ensures c.ranges.price in
     rw (v.0, ← z) (ap (λ (w : Shows). leaves (Shown w.answer) w.scratch w.out) c.show_queue.ensures)

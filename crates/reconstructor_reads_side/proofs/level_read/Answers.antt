@@ -12,7 +12,7 @@ pub show_levels-requires : goal.show_levels-requires
 show_levels-requires c =
     let a = c.args in
     let m = memory a.rows.now in
-    let v = found-valid a.top a.book m (scratch_short a.book a.scratch.now) _ c.valid_book.ensures _ c.in-Valid.is in
+    let v = found-valid a.top a.book m (scratch_short a.book a.scratch.now) _ c.valid_book.ensures _ c.in-Ok.is in
     let s = sound a.book m v.2.trusted.sound in
     record {
       lent = (rows-ready a.top a.book m c.requires.0 v.2.trusted, s.formed.sound);
@@ -20,15 +20,15 @@ show_levels-requires c =
       l2words_le_width = c.requires.1;
     }
 
-pub returns-in-Refused : goal.returns-in-Refused
+pub returns-in-Err : goal.returns-in-Err
 unfolding level_read
-returns-in-Refused c =
+returns-in-Err c =
     let a = c.args in
-    rw (refused-for a.top a.book (memory a.rows.now) (scratch_short a.book a.scratch.now) _ c.valid_book.ensures _ c.in-Refused.is)
+    rw (refused-for a.top a.book (memory a.rows.now) (scratch_short a.book a.scratch.now) _ c.valid_book.ensures _ c.in-Err.is)
 
-pub returns-in-Valid : goal.returns-in-Valid
+pub returns-in-Ok : goal.returns-in-Ok
 unfolding level_read
-returns-in-Valid c =
+returns-in-Ok c =
     let a = c.args in
-    let v = found-valid a.top a.book (memory a.rows.now) (scratch_short a.book a.scratch.now) _ c.valid_book.ensures _ c.in-Valid.is in
+    let v = found-valid a.top a.book (memory a.rows.now) (scratch_short a.book a.scratch.now) _ c.valid_book.ensures _ c.in-Ok.is in
     rw v.0 (ap (λ (w : Shows). leaves (Shown w.answer) w.scratch w.out) c.show_levels.ensures)

@@ -14,7 +14,7 @@ pub show_levels-requires : goal.show_levels-requires
 show_levels-requires c =
     let a = c.args in
     let m = memory a.rows.now in
-    let v = said-none (read_refusal_of a.top a.book m (scratch_short a.book a.scratch.now)) _ c.read_checks.ensures c.in-Passed.is in
+    let v = said-none (read_refusal_of a.top a.book m (scratch_short a.book a.scratch.now)) _ c.read_checks.ensures c.in-Ok.is in
     let r = readable a.top a.book m (scratch_short a.book a.scratch.now) v in
     let s = sound a.book m r.trusted.sound in
     record {
@@ -23,29 +23,29 @@ show_levels-requires c =
       l2words_le_width = (omega arith, omega arith);
     }
 
-pub returns-in-Refused : goal.returns-in-Refused
+pub returns-in-Err : goal.returns-in-Err
 unfolding stale_read
-returns-in-Refused c =
+returns-in-Err c =
     let a = c.args in
-    rw (said (read_refusal_of a.top a.book (memory a.rows.now) (scratch_short a.book a.scratch.now)) _ _ c.read_checks.ensures c.in-Refused.is)
+    rw (said (read_refusal_of a.top a.book (memory a.rows.now) (scratch_short a.book a.scratch.now)) _ _ c.read_checks.ensures c.in-Err.is)
 
 pub returns-in-Empty : goal.returns-in-Empty
 unfolding stale_read
 returns-in-Empty c =
     let a = c.args in
-    let v = said-none (read_refusal_of a.top a.book (memory a.rows.now) (scratch_short a.book a.scratch.now)) _ c.read_checks.ensures c.in-Passed.is in
+    let v = said-none (read_refusal_of a.top a.book (memory a.rows.now) (scratch_short a.book a.scratch.now)) _ c.read_checks.ensures c.in-Ok.is in
     rw (v, c.in-Empty.is)
 
 pub returns-in-Valid : goal.returns-in-Valid
 unfolding stale_read
 returns-in-Valid c =
     let a = c.args in
-    let v = said-none (read_refusal_of a.top a.book (memory a.rows.now) (scratch_short a.book a.scratch.now)) _ c.read_checks.ensures c.in-Passed.is in
+    let v = said-none (read_refusal_of a.top a.book (memory a.rows.now) (scratch_short a.book a.scratch.now)) _ c.read_checks.ensures c.in-Ok.is in
     rw (v, c.in-Valid.is)
 
 pub returns-in-Invalidated : goal.returns-in-Invalidated
 unfolding stale_read
 returns-in-Invalidated c =
     let a = c.args in
-    let v = said-none (read_refusal_of a.top a.book (memory a.rows.now) (scratch_short a.book a.scratch.now)) _ c.read_checks.ensures c.in-Passed.is in
+    let v = said-none (read_refusal_of a.top a.book (memory a.rows.now) (scratch_short a.book a.scratch.now)) _ c.read_checks.ensures c.in-Ok.is in
     rw (v, c.in-Invalidated.is) (ap (λ (w : Shows). leaves_stale (Shown w.answer) w.scratch w.out) c.show_levels.ensures)

@@ -12,4 +12,4 @@ returns-in_default c =
 pub returns : goal.returns
 returns c =
     let a = c.args in
-    sym (ap present (found_at a.rows.now a.i (id_of a.order) _ (sym c.find.ensures ∙ c.in-At.is)).entry)
+    sym (ap present (found_at a.rows.now a.i (id_of a.order) _ (sym c.find.ensures ∙ c.in-Some.is)).entry)

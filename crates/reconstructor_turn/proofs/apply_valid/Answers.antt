@@ -8,18 +8,18 @@ use Rattle.book.specs.Memory.{memory}
 use Rattle.reconstructor_turn.proofs.apply_valid.Goals as goal
 
 pub commit-requires : goal.commit-requires
-commit-requires c = record { ready = c.requires.ready; plan_fits = (rw c.in-Plan.is at c.take_turn.ensures).2 }
+commit-requires c = record { ready = c.requires.ready; plan_fits = (rw c.in-Ok.is at c.take_turn.ensures).2 }
 
-pub returns-in-Plan : goal.returns-in-Plan
+pub returns-in-Ok : goal.returns-in-Ok
 unfolding decided accepted committed
-returns-in-Plan c =
+returns-in-Ok c =
     let a = c.args in
-    let h = rw c.in-Plan.is at c.take_turn.ensures in
+    let h = rw c.in-Ok.is at c.take_turn.ensures in
     rw h.0 (c.commit.ensures ∙ ap (committed a.book a.rows.now a.message.sequence) h.1)
 
-pub returns-in-Broken : goal.returns-in-Broken
+pub returns-in-Err : goal.returns-in-Err
 unfolding decided
-returns-in-Broken c =
+returns-in-Err c =
     let a = c.args in
-    let h = rw c.in-Broken.is at c.take_turn.ensures in
+    let h = rw c.in-Err.is at c.take_turn.ensures in
     rw h (ap (λ (r : Reply). core r (memory a.rows.now)) c.invalidated.ensures)

@@ -18,14 +18,14 @@ pub returns-then-seq-expected : goal.returns-then-seq-expected
 unfolding turn_refusal
 returns-then-seq-expected c = goes_on _ _ _ _ (ne_eqb _ _ c.if-last_seq-eq18446744073709551615.false) (goes_on _ _ _ _ (lt-leb _ _ c.if-seq-last_seq.false) (fails _ _ _ (lt-ltb _ _ c.if-seq-expected.true)))
 
-pub returns-in-Plan : goal.returns-in-Plan
+pub returns-in-Ok : goal.returns-in-Ok
 unfolding turn_refusal
-returns-in-Plan c =
-    let h = rw c.in-Plan.is at c.plan_event.ensures in
+returns-in-Ok c =
+    let h = rw c.in-Ok.is at c.plan_event.ensures in
     (goes_on _ _ _ _ (ne_eqb _ _ c.if-last_seq-eq18446744073709551615.false) (goes_on _ _ _ _ (lt-leb _ _ c.if-seq-last_seq.false) (goes_on _ _ _ _ (le-ltb _ _ c.if-seq-expected.false) (first_on _ _ _ _ h.0 refl))), h.1, h.2)
 
-pub returns-in-Refused : goal.returns-in-Refused
+pub returns-in-Err : goal.returns-in-Err
 unfolding turn_refusal
-returns-in-Refused c =
-    let h = rw c.in-Refused.is at c.plan_event.ensures in
+returns-in-Err c =
+    let h = rw c.in-Err.is at c.plan_event.ensures in
     goes_on _ _ _ _ (ne_eqb _ _ c.if-last_seq-eq18446744073709551615.false) (goes_on _ _ _ _ (lt-leb _ _ c.if-seq-last_seq.false) (goes_on _ _ _ _ (le-ltb _ _ c.if-seq-expected.false) (first-fails _ _ _ _ h)))

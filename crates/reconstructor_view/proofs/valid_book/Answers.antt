@@ -6,16 +6,16 @@ use Rattle.reconstructor_checks.proofs.StateChecks.{said, said-none}
 use Rattle.reconstructor_state.proofs.Checks.{first-fails, first_on}
 use Rattle.reconstructor_view.proofs.valid_book.Goals as goal
 
-pub returns-in-Refused : goal.returns-in-Refused
+pub returns-in-Err : goal.returns-in-Err
 unfolding view_refusal sequence_of
-returns-in-Refused c =
+returns-in-Err c =
     let a = c.args in
-    let h = said (read_refusal_of a.top a.book (memory a.rows.now) a.short) _ _ c.read_checks.ensures c.in-Refused.is in
+    let h = said (read_refusal_of a.top a.book (memory a.rows.now) a.short) _ _ c.read_checks.ensures c.in-Err.is in
     ap (λ o. sequence_of o (last_of a.book.status)) (sym (first-fails _ _ _ _ h))
 
-pub returns-in-Passed : goal.returns-in-Passed
+pub returns-in-Ok : goal.returns-in-Ok
 unfolding view_refusal sequence_of
-returns-in-Passed c =
+returns-in-Ok c =
     let a = c.args in
-    let h = said-none (read_refusal_of a.top a.book (memory a.rows.now) a.short) _ c.read_checks.ensures c.in-Passed.is in
+    let h = said-none (read_refusal_of a.top a.book (memory a.rows.now) a.short) _ c.read_checks.ensures c.in-Ok.is in
     c.valid_status.ensures ∙ ap (λ o. sequence_of o (last_of a.book.status)) (sym (first_on _ _ _ _ h refl))

@@ -10,25 +10,25 @@ pub best_bid-requires : goal.best_bid-requires
 best_bid-requires c =
     let a = c.args in
     let m = memory a.rows.now in
-    let v = found-valid a.top a.book m false _ c.valid_book.ensures _ c.in-Valid.is in
+    let v = found-valid a.top a.book m false _ c.valid_book.ensures _ c.in-Ok.is in
     rows-ready a.top a.book m c.requires v.2.trusted
 
 pub best_ask-requires : goal.best_ask-requires
 best_ask-requires c =
     let a = c.args in
     let m = memory a.rows.now in
-    let v = found-valid a.top a.book m false _ c.valid_book.ensures _ c.in-Valid.is in
+    let v = found-valid a.top a.book m false _ c.valid_book.ensures _ c.in-Ok.is in
     rows-ready a.top a.book m c.requires v.2.trusted
 
-pub returns-in-Refused : goal.returns-in-Refused
+pub returns-in-Err : goal.returns-in-Err
 unfolding best_of
-returns-in-Refused c =
+returns-in-Err c =
     let a = c.args in
-    rw (refused-for a.top a.book (memory a.rows.now) false _ c.valid_book.ensures _ c.in-Refused.is)
+    rw (refused-for a.top a.book (memory a.rows.now) false _ c.valid_book.ensures _ c.in-Err.is)
 
-pub returns-in-Valid : goal.returns-in-Valid
+pub returns-in-Ok : goal.returns-in-Ok
 unfolding best_of
-returns-in-Valid c =
+returns-in-Ok c =
     let a = c.args in
-    let v = found-valid a.top a.book (memory a.rows.now) false _ c.valid_book.ensures _ c.in-Valid.is in
+    let v = found-valid a.top a.book (memory a.rows.now) false _ c.valid_book.ensures _ c.in-Ok.is in
     rw (v.0, c.best_bid.ensures, c.best_ask.ensures)

@@ -6,13 +6,13 @@ use borrow.Author.Rules.{rules}
 use Rattle.message.specs.Amounts.{differs, given_differs}
 use Rattle.message.proofs.amount.given_differs.Goals as goal
 
-pub returns-in-Absent : goal.returns-in-Absent
+pub returns-in-None : goal.returns-in-None
 unfolding given_differs
-returns-in-Absent c = rw c.in-Absent.is
+returns-in-None c = rw c.in-None.is
 
-pub returns-in-Given : goal.returns-in-Given
+pub returns-in-Some : goal.returns-in-Some
 unfolding given_differs
-returns-in-Given c =
+returns-in-Some c =
     let a = c.args in
-    let e : to_z w64 (of_z w64 c.in-Given.a) ≡ c.in-Given.a = search rules in
-    rw c.in-Given.is (c.differs.ensures ∙ ap (λ (z : ℤ). differs z a.m) e)
+    let e : to_z w64 (of_z w64 c.in-Some.a) ≡ c.in-Some.a = search rules in
+    rw c.in-Some.is (c.differs.ensures ∙ ap (λ (z : ℤ). differs z a.m) e)
