@@ -4,13 +4,9 @@
 ghost use Rattle.std.specs.Prelude.{◌≡◌, ◌++◌, ◌+◌, ◌≤◌, length, take, drop};
 
 // Writes `words` from place `at` on.
-pub fn put(out: &mut [u64], at: usize, words: &[u64])
+pub fn put<T: Copy>(out: &mut [T], at: usize, words: &[T])
     requires { at + length words.now ≤ length out.old }
     ensures { out.new ≡ take at out.old ++ words.now ++ drop (at + length words.now) out.old }
 {
-    let mut i: usize = 0;
-    while i < words.len() {
-        out[at + i] = words[i];
-        i += 1;
-    }
+    out[at..at + words.len()].copy_from_slice(words);
 }
