@@ -1,6 +1,6 @@
 -- A state and a message from words, and a state as words. Any words are read as some state and some message; a kind, side, reason, presence, status or number that none has is
 -- turned away before (crate `host_boundary`).
-use Rattle.std.specs.Prelude.{ℕ, ◌%◌, List, [], ◌∷◌, ◌++◌, Bool, true, false, cond, eqb, get_or, set, take, drop, Option, Some, None}
+use Rattle.std.specs.Prelude.{ℕ, ◌%◌, List, [], ◌∷◌, ◌++◌, Bool, true, false, cond, eqb, get_or, set, take, drop, Option, Some, None, ℤ}
 use Rattle.std.specs.Int.{w64}
 use Rattle.std.proofs.Common.{to_z}
 use Rattle.message.specs.declared.OrderId.{OrderId}
