@@ -4,18 +4,18 @@ use Prim.Native.Nat.{ℕ, zero, suc, ◌+◌, ◌*◌, ◌-◌, ◌<◌, ◌≤�
 use mathlib.Core.Path.{◌≡◌, refl, sym, ap, ap₂, ◌∙◌}
 use mathlib.Core.List.{List, [], ◌∷◌, ◌++◌}
 use native.Mathlib.Nat.{add-zero, zero-add, suc-add}
-use native.Mathlib.Numerals.{add-one}
 use native.Mathlib.Omega.{arith}
 use lib.Dec.{lit<}
 use lib.ListN.{length, get_or, take, drop, set, length-append, length-drop}
 use lib.Seq.{set_at, get_or_at, take-nil, length-take-le}
-use Rattle.laws.proofs.Splice.{splice-length, splice-before, splice_in, splice-past, splice-rest, moved, move_step, move_end}
+use Rattle.laws.proofs.Splice.{splice-length, splice-before, splice_in, splice-past, splice-rest}
+use Rattle.std.specs.List.{CopiedTo, SameBelow}
 use Rattle.book.specs.declared.Resting.{Resting}
 use Rattle.book.specs.Rows.{row_words, row_at, rows_from, set_row, words_of, remove_at}
 
 -- ---- a row
 
-row_path : {a b : Resting} → a.high ≡ b.high → a.low ≡ b.low → a.price ≡ b.price → a.remaining ≡ b.remaining
+pub row_path : {a b : Resting} → a.high ≡ b.high → a.low ≡ b.low → a.price ≡ b.price → a.remaining ≡ b.remaining
     → a.kind ≡ b.kind → a.entered_at ≡ b.entered_at → a.decreased ≡ b.decreased → a.decreased_at ≡ b.decreased_at → a ≡ b
 row_path p0 p1 p2 p3 p4 p5 p6 p7 =
     λ k. record { high = p0 k; low = p1 k; price = p2 k; remaining = p3 k; kind = p4 k; entered_at = p5 k; decreased = p6 k; decreased_at = p7 k }
@@ -133,19 +133,27 @@ remove_eq [] i = sym (rw take-nil)
 remove_eq (o ∷ os) zero = refl
 remove_eq (o ∷ os) (suc i) = ap {B = List Resting} (λ r. o ∷ r) (remove_eq os i)
 
-module _ (l : List Resting) (ws : List ℕ) (n at i : ℕ) (o : Resting) (fits : row_words * n ≤ length ws) (len : length l ≡ n) (from : at ≤ i)
-    (so : rows_from ws 0 n ≡ moved l at (i - at)) where
-  -- a turn: the row after i is copied to row i
-  pub remove-turn : i + 1 < n → o ≡ row_at ws (i + 1) → rows_from (set_row ws i o) 0 n ≡ moved l at (i + 1 - at)
-  remove-turn h e =
-      let q : i + 1 - at ≡ i - at + 1 = omega arith in
-      let r : get_or (moved l at (i - at)) (i + 1) o ≡ o = rw (← so, get_d_rows ws n (i + 1) o h) (sym e) in
-      rows_set ws n i o fits (omega arith)
-      ∙ rw (so, q) (rw r at (move_step l at (i - at) i o (omega arith) (omega arith)))
+remove_here : (a : List Resting) (o : Resting) (b : List Resting) → remove_at (a ++ o ∷ b) (length a) ≡ a ++ b
+remove_here [] o b = refl
+remove_here (x ∷ a) o b = ap {B = List Resting} (λ r. x ∷ r) (remove_here a o b)
 
-  -- the end: the last row is zeroed
-  pub remove-last : n ≤ i + 1 → i < n → rows_from (set_row ws i o) 0 n ≡ remove_at l at ++ (o ∷ [])
-  remove-last h k = rows_set ws n i o fits k ∙ rw (so, remove_eq, ← add-one at) (move_end l at (i - at) i o (omega arith) (omega arith))
+-- the words of the rows behind row i moved down by one row, and the last row written
+pub rows_shift : (ws vs : List ℕ) (n i : ℕ) (o : Resting) → row_words * n ≤ length vs → i < n → SameBelow ws vs (row_words * i)
+    → CopiedTo ws vs (row_words * (i + 1)) (row_words * i) (row_words * n - row_words * (i + 1))
+    → rows_from (set_row vs (n - 1) o) 0 n ≡ remove_at (rows_from ws 0 n) i ++ (o ∷ [])
+rows_shift ws vs n i o fits h below copied =
+    let e : n - 1 + 1 ≡ n = omega arith in
+    let p : n - 1 ≡ i + (n - (i + 1)) = omega arith in
+    let front : rows_from vs 0 i ≡ rows_from ws 0 i =
+    rows_same vs ws 0 0 i (λ f hf. row_same vs ws (0 + f) (0 + f) (λ w hw. below (row_words * (0 + f) + w) 0 (omega arith))) in
+    let back : rows_from vs i (n - (i + 1)) ≡ rows_from ws (i + 1) (n - (i + 1)) =
+    rows_same vs ws i (i + 1) (n - (i + 1)) (λ f hf.
+    row_same vs ws (i + f) (i + 1 + f) (λ w hw.
+    copied (row_words * (i + f) + w) 0 (omega arith) (omega arith) ∙ ap (λ x. get_or ws x 0) (omega arith))) in
+    let kept : rows_from vs 0 (n - 1) ≡ remove_at (rows_from ws 0 n) i =
+    ap (rows_from vs 0) p ∙ rows_split vs 0 i (n - (i + 1)) ∙ rw (zero-add, front, back, rows-around ws n i h)
+    (sym (rw (length-rows ws 0 i) at (remove_here (rows_from ws 0 i) (row_at ws i) (rows_from ws (i + 1) (n - (i + 1)))))) in
+    ap (rows_from (set_row vs (n - 1) o) 0) (sym e) ∙ rows_push vs (n - 1) o (omega arith) ∙ ap (λ l. l ++ (o ∷ [])) kept
 
 pub length-remove : (os : List Resting) (i : ℕ) → i < length os → length (remove_at os i) ≡ length os - 1
 length-remove os i h = rw remove_eq (simp (length-append, length-drop, length-take-le i os (omega arith)) (omega arith))

@@ -13,7 +13,7 @@ pub const ROW_WORDS: usize = 8;
 pub const MOST_ROWS: usize = 4096;
 
 // A resting order: the eight words of its row, in their order.
-#[derive(Clone, Copy)]
+#[derive(Clone, Copy, Default)]
 pub struct Resting {
     pub high: u64,
     pub low: u64,

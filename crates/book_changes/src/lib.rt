@@ -2,7 +2,7 @@
 #![tactic(auto)]
 
 ghost use Rattle.std.specs.Prelude.{◌≡◌, [], ◌∷◌, ◌++◌, ◌+◌, ◌*◌, ◌≤◌, ◌<◌, length, set};
-ghost use Rattle.book.specs.Rows.{Lent, row_words, most_rows, empty_row, row_at, rows_of, stored, remove_at, reduced};
+ghost use Rattle.book.specs.Rows.{Lent, row_words, most_rows, row_at, rows_of, stored, remove_at, reduced};
 
 use book::Resting;
 
@@ -18,15 +18,14 @@ pub fn insert(rows: &mut [u64], n: usize, order: Resting)
 fn reduced(order: Resting, remaining: u64, mark: Option<u64>) -> Resting
     ensures { result ≡ reduced order remaining mark }
 {
-    let mut o = order;
-    o.remaining = remaining;
     match mark {
-        None => o,
-        Some(at) => {
-            o.decreased = 1;
-            o.decreased_at = at;
-            o
-        }
+        None => Resting { remaining, ..order },
+        Some(at) => Resting {
+            remaining,
+            decreased: 1,
+            decreased_at: at,
+            ..order
+        },
     }
 }
 
@@ -40,32 +39,14 @@ pub fn reduce(rows: &mut [u64], n: usize, i: usize, remaining: u64, mark: Option
     book::set_row(rows, i, next)
 }
 
-// A row of zeros.
-fn empty_row() -> Resting
-    ensures { result ≡ empty_row }
-{
-    Resting {
-        high: 0,
-        low: 0,
-        price: 0,
-        remaining: 0,
-        kind: 0,
-        entered_at: 0,
-        decreased: 0,
-        decreased_at: 0,
-    }
-}
-
 // Removes row `i` of `n`: the later rows move down by one, and the freed row is zeroed.
 pub fn remove(rows: &mut [u64], n: usize, i: usize)
     requires { Lent rows.old n × (i < n) }
     ensures { rows.new ≡ stored rows.old n (remove_at (rows_of rows.old n) i) }
 {
-    let mut k = i;
-    while k + 1 < n {
-        let o = book::get_row(rows, k + 1);
-        book::set_row(rows, k, o);
-        k += 1;
-    }
-    book::set_row(rows, k, empty_row())
+    rows.copy_within(
+        book::ROW_WORDS * (i + 1)..book::ROW_WORDS * n,
+        book::ROW_WORDS * i,
+    );
+    book::set_row(rows, n - 1, Resting::default())
 }

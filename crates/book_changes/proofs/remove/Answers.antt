@@ -1,46 +1,30 @@
--- The loop keeps the rows `moved`: each place from `i` to below `k` has the row that was behind it, and the words past row `n` are as they were.
--- At the last row nothing is left to move, and zeroing it gives `remove_at` with an empty row behind, which is how `stored` fills the freed row.
-use Prim.Native.Nat.{◌≤◌, ◌<◌, ◌+◌, ◌*◌}
-use mathlib.Core.Path.{◌≡◌, ◌∙◌, refl}
-use mathlib.Core.List.{[], ◌∷◌, ◌++◌}
+-- The words of the later rows move down by one row (`rows_shift`) and those past row `n` stay. The freed row is zeroed, which is how `stored` fills it.
+use Prim.Native.Nat.{◌+◌, ◌*◌, ◌-◌, ◌≤◌}
+use mathlib.Core.Path.{◌≡◌, ◌∙◌, ap}
 use native.Mathlib.Omega.{arith}
-use lib.ListN.{length}
-use Rattle.laws.proofs.Splice.{move-none}
-use Rattle.book.specs.Rows.{row_words, empty_row, rows_of, remove_at}
-use Rattle.book.proofs.Rows.{length-rows, remove-turn, remove-last, rest_set}
+use lib.ListN.{length, drop, length-drop}
+use lib.Seq.{length-take-le}
+use Rattle.laws.proofs.Splice.{splice-rest}
+use Rattle.book.specs.Rows.{row_words, empty_row, set_row}
+use Rattle.book.proofs.Rows.{row_path, rows_shift, rest_set, length-set_row}
 use Rattle.book.proofs.Stored.{stored-remove}
 use Rattle.book_changes.proofs.remove.Goals as goal
 
-pub loop-k-init : goal.loop-k-init
-loop-k-init c = (omega arith, omega arith, refl, refl, move-none (rows_of c.args.rows.now c.args.n) c.args.i)
-
-pub loop-k-preserved : goal.loop-k-preserved
-loop-k-preserved c =
-    let fits : row_words * c.args.n ≤ length c.loop-k.rows = omega arith in
-    let more : c.loop-k.k + 1 < c.args.n = omega arith in (
-      omega arith,
-      more,
-      omega (arith, c.set_row.auto.rows),
-      rw c.set_row.ensures (rest_set c.loop-k.rows c.args.n c.loop-k.k c.get_row-o.result fits (omega arith) ∙ c.loop-k.invariant.3),
-      rw c.set_row.ensures
-          (remove-turn (rows_of c.args.rows.now c.args.n) c.loop-k.rows c.args.n c.args.i c.loop-k.k c.get_row-o.result fits
-          (length-rows c.args.rows.now 0 c.args.n)
-          c.loop-k.invariant.0
-          c.loop-k.invariant.4
-          more
-          c.get_row-o.ensures),
-    )
-
 pub returns : goal.returns
 returns c =
-    let fits : row_words * c.args.n ≤ length c.loop-k.rows = omega arith in
-    let whole : rows_of c.set_row-2.new.rows c.args.n ≡ remove_at (rows_of c.args.rows.now c.args.n) c.args.i ++ (empty_row ∷ []) =
-    rw (c.set_row-2.ensures, c.empty_row.ensures)
-    (remove-last (rows_of c.args.rows.now c.args.n) c.loop-k.rows c.args.n c.args.i c.loop-k.k empty_row fits
-    (length-rows c.args.rows.now 0 c.args.n)
-    c.loop-k.invariant.0
-    c.loop-k.invariant.4
-    (omega arith)
-    c.loop-k.invariant.1) in
-    stored-remove c.args.rows.now _ c.args.n c.args.i (omega (arith, c.set_row-2.auto.rows)) (omega arith) whole
-    (rw (c.set_row-2.ensures, c.empty_row.ensures) (rest_set c.loop-k.rows c.args.n c.loop-k.k empty_row fits c.loop-k.invariant.1 ∙ c.loop-k.invariant.3))
+    let n = c.args.n in
+    let i = c.args.i in
+    let ws = c.args.rows.now in
+    let vs = c.copy_within.new.self in
+    let d = c.default.ensures in
+    let zeros : c.default.result ≡ empty_row = row_path d.0 d.1.0 d.1.1.0 d.1.1.1.0 d.1.1.1.1.0 d.1.1.1.1.1.0 d.1.1.1.1.1.1.0 d.1.1.1.1.1.1.1 in
+    let count = length-take-le (row_words * n - row_words * (i + 1)) (drop (row_words * (i + 1)) ws) (omega (arith, length-drop (row_words * (i + 1)) ws)) in
+    let rest : drop (row_words * n) vs ≡ drop (row_words * n) ws =
+    ap (drop (row_words * n)) c.copy_within.ensures.after
+    ∙ splice-rest ws _ (row_words * i) _ (ap (λ x. row_words * i + x) count) (omega arith) (row_words * n) (omega arith) in
+    let fits : row_words * n ≤ length vs = omega arith in
+    c.set_row.ensures
+    ∙ ap (set_row vs (n - 1)) zeros
+    ∙ stored-remove ws (set_row vs (n - 1) empty_row) n i (rw (length-set_row vs (n - 1) empty_row (omega arith)) fits) (omega arith)
+    (rows_shift ws vs n i empty_row fits (omega arith) c.copy_within.ensures.by_index.1 c.copy_within.ensures.by_index.0)
+    (rest_set vs n (n - 1) empty_row fits (omega arith) ∙ rest)
