@@ -4,14 +4,15 @@
 use Prim.Native.Nat.{ℕ, zero, suc, ◌+◌, ◌*◌, ◌-◌, ◌/◌, ◌%◌, ◌≤◌, ◌<◌}
 use native.Mathlib.Numerals.{add-one}
 use native.Mathlib.Omega.{arith}
-use mathlib.Core.Path.{◌≡◌, refl, sym, ap, ◌∙◌}
+use mathlib.Core.Path.{◌≡◌, refl, ap, ◌∙◌}
 use mathlib.Core.Bool.{Bool, true, false}
-use mathlib.Core.List.{List, [], ◌∷◌, ◌++◌, append_assoc}
-use borrow.Author.Tests.{ltb-true, ltb-false, lt-ltb, le-ltb}
+use mathlib.Core.List.{List, [], ◌∷◌, ◌++◌, append_assoc, append-nil}
+use borrow.Author.Tests.{ltb-true, ltb-false, lt-ltb, le-ltb, ne_eqb}
 use lib.Dec.{ltb}
-use lib.ListN.{length, get_or, take, drop, set, length-append, length-drop, length-set}
-use lib.Seq.{take_all, drop-cons, drop-set-lt, get_or-set_same}
-use Rattle.text.specs.Decimal.{digit, decimal_in, decimal, most_digits}
+use lib.ListN.{length, get_or, length-append}
+use Rattle.std.specs.Fmt.{digit_glyph, digits_onto, digits}
+use Rattle.std.specs.Fmt.{decimal as Fmt·decimal}
+use Rattle.text.specs.Decimal.{digit, decimal_in, decimal}
 use Rattle.text.specs.Digits.{number_from, AllDigits, IsDecimal}
 
 -- ---- by tens
@@ -89,60 +90,33 @@ pub decimal-some : (n : ℕ) → 1 ≤ length (decimal n)
 decimal-some = by-tens (λ n. 1 ≤ length (decimal n)) (λ n h. rw (decimal-last n h) (omega arith))
     (λ n h r. rw (decimal-next n h) (rw (length-append (decimal (n / 10)) (digit (n % 10) ∷ [])) (omega arith)))
 
+-- ---- they are what std prints
+
 -- ten to the power of k + 1
 abbrev tens : ℕ → ℕ
 tens zero = 10
 tens (suc k) = 10 * tens k
 
-decimal_most : (k n : ℕ) → n < tens k → length (decimal n) ≤ suc k
-decimal_most zero n h = rw (decimal-last n (omega arith)) (omega arith)
-decimal_most (suc k) n h = go (ltb n 10) refl (decimal_most k (n / 10) (omega arith))
+glyph : (d : ℕ) → d < 10 → digit_glyph false d ≡ digit d
+glyph d h = rw (lt-ltb d 10 h)
+
+printed_last : (k n : ℕ) (ds : List ℕ) → n ≤ 9 → digits_onto (suc k) 10 false n ds ≡ decimal n ++ ds
+printed_last k n ds h =
+    let z : n / 10 ≡ 0 = omega arith in
+    let r : n % 10 ≡ n = omega arith in
+    rw (z, r, glyph n (omega arith), decimal-last n h)
+
+printed_onto : (k n : ℕ) (ds : List ℕ) → n < tens k → digits_onto (suc k) 10 false n ds ≡ decimal n ++ ds
+printed_onto zero n ds h = printed_last zero n ds (omega arith)
+printed_onto (suc k) n ds h = go (ltb n 10) refl (λ _. printed_onto k (n / 10) (digit_glyph false (n % 10) ∷ ds) (omega arith))
   where
-    go : (b : Bool) → ltb n 10 ≡ b → length (decimal (n / 10)) ≤ suc k → length (decimal n) ≤ suc (suc k)
-    go true e r = rw (decimal-last n (omega (arith, ltb-true n 10 e))) (omega arith)
-    go false e r = rw (decimal-next n (omega (arith, ltb-false n 10 e))) (rw (length-append (decimal (n / 10)) (digit (n % 10) ∷ [])) (omega arith))
+    go : (b : Bool) → ltb n 10 ≡ b → (9 < n → digits_onto (suc k) 10 false (n / 10) (digit_glyph false (n % 10) ∷ ds) ≡ decimal (n / 10) ++ (digit_glyph false (n % 10) ∷ ds))
+        → digits_onto (suc (suc k)) 10 false n ds ≡ decimal n ++ ds
+    go true e more = printed_last (suc k) n ds (omega (arith, ltb-true n 10 e))
+    go false e more =
+        let many : 9 < n = omega (arith, ltb-false n 10 e) in
+        rw (ne_eqb (n / 10) 0 (λ q. omega arith), more many, glyph (n % 10) (omega arith), decimal-next n many, append_assoc)
 
--- of a 64-bit number
-pub decimal-short : (n : ℕ) → n < 18446744073709551616 → length (decimal n) ≤ most_digits
-decimal-short n h = decimal_most 19 n (omega arith)
-
--- ---- digits set down from the end of a list
-
-set_here : (l : List ℕ) (j i d : ℕ) → suc j ≡ i → i ≤ length l → drop j (set l j d) ≡ d ∷ drop i l
-set_here l j i d e h =
-    drop-cons (set l j d) j 0 (omega (arith, length-set l j d))
-    ∙ rw (get_or-set_same l j d 0 (omega arith), e) (ap (λ (r : List ℕ). d ∷ r) (drop-set-lt i l j d (omega arith)))
-
--- once all digits of n but those of `rest` stand from place i on
-pub record SetDown (n rest : ℕ) (ds : List ℕ) (i : ℕ) : Type 0 where
-  pub digits : decimal n ≡ decimal rest ++ drop i ds
-  pub few : length (decimal n) ≤ length ds
-  pub within : i ≤ length ds
-
-module _ (n rest : ℕ) (ds : List ℕ) (i : ℕ) (s : SetDown n rest ds i) where
-  -- those that are left have room before the others
-  pub digits-room : length (decimal rest) ≤ i
-  digits-room = omega (arith, s.few, ap length s.digits ∙ length-append (decimal rest) (drop i ds), length-drop i ds)
-
-  pub one_left : 1 ≤ i
-  one_left = omega (arith, digits-room, decimal-some rest)
-
-  pub digits-next : 9 < rest → SetDown n (rest / 10) (set ds (i - 1) (digit (rest % 10))) (i - 1)
-  digits-next q =
-      let z = one_left in
-      let l = length-set ds (i - 1) (digit (rest % 10)) in
-      record {
-        digits = s.digits ∙ rw (decimal-next rest q) (append_assoc (decimal (rest / 10)) (digit (rest % 10) ∷ []) (drop i ds)
-            ∙ ap (λ (r : List ℕ). decimal (rest / 10) ++ r) (sym (set_here ds (i - 1) i (digit (rest % 10)) (omega arith) s.within)));
-        few = omega (arith, s.few);
-        within = omega (arith, s.within);
-      }
-
-  -- with the last one they all stand there, up to the list's end
-  pub digits_last : (k : ℕ) → length ds ≡ k → rest ≤ 9 → take (k - (i - 1)) (drop (i - 1) (set ds (i - 1) (digit rest))) ≡ decimal n
-  digits_last k e q =
-      let z = one_left in
-      let l = length-set ds (i - 1) (digit rest) in
-      take_all (k - (i - 1)) (drop (i - 1) (set ds (i - 1) (digit rest))) (omega (arith, length-drop (i - 1) (set ds (i - 1) (digit rest))))
-      ∙ set_here ds (i - 1) i (digit rest) (omega arith) s.within
-      ∙ sym (s.digits ∙ rw (decimal-last rest q))
+pub printed : (n : ℕ) → n < 18446744073709551616 → Fmt·decimal n ≡ decimal n
+unfolding digits
+printed n h = printed_onto 63 n [] (omega arith) ∙ append-nil (decimal n)

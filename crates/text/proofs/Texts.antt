@@ -1,20 +1,14 @@
 -- Text set into a list from a place on.
 -- Assumes nothing.
-use Prim.Native.Nat.{ℕ, suc, ◌+◌, ◌≤◌, ◌<◌}
-use native.Mathlib.Nat.{add-zero, add-suc, zero-add}
-use native.Mathlib.Numerals.{add-one}
+use Prim.Native.Nat.{ℕ, suc, ◌+◌, ◌≤◌}
+use native.Mathlib.Nat.{add-zero, zero-add}
 use native.Mathlib.Omega.{arith}
 use mathlib.Core.Path.{◌≡◌, refl, sym, ap, ◌∙◌}
 use mathlib.Core.List.{List, [], ◌∷◌, ◌++◌, append_assoc}
-use lib.ListN.{length, set, take, drop, get_or, length-append}
-use lib.Seq.{sets, sets-eq, drop-cons, take_at}
+use lib.ListN.{length, set, take, drop, length-append}
+use lib.Seq.{sets, sets-eq, take_at}
 use Rattle.text.specs.Lines.{space, spaced}
 use Rattle.text.specs.Writes.{Writes}
-
--- the next byte goes to the next place
-pub sets-next : (t bytes : List ℕ) (at i : ℕ) → i < length bytes
-    → sets t (at + i) (drop i bytes) ≡ sets (set t (at + i) (get_or bytes i 0)) (at + (i + 1)) (drop (i + 1) bytes)
-sets-next t bytes at i h = rw (drop-cons bytes i 0 h, add-one i, add-suc at i)
 
 sets_append : (xs ys t : List ℕ) (at : ℕ) → sets t at (xs ++ ys) ≡ sets (sets t at xs) (at + length xs) ys
 sets_append [] ys t at = rw (add-zero at)
