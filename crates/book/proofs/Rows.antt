@@ -9,9 +9,13 @@ use lib.Dec.{lit<}
 use lib.ListN.{length, get_or, take, drop, set, length-append, length-drop}
 use lib.Seq.{set_at, get_or_at, take-nil, length-take-le}
 use Rattle.laws.proofs.Splice.{splice-length, splice-before, splice_in, splice-past, splice-rest}
-use Rattle.std.specs.List.{CopiedTo, SameBelow}
+use Rattle.std.specs.List.{CopiedTo, SameBelow, list_any, range_with_len, find}
+use Rattle.std.specs.Prelude.{Some}
 use Rattle.book.specs.declared.Resting.{Resting}
-use Rattle.book.specs.Rows.{row_words, row_at, rows_from, set_row, words_of, remove_at}
+use Rattle.book.specs.Rows.{row_words, row_at, rows_from, set_row, words_of, remove_at, id_of, find_row}
+use Rattle.message.specs.declared.OrderId.{OrderId}
+use Rattle.message.specs.Same.{same_id}
+use mathlib.Core.Bool.{Bool, false, ◌||◌, cond}
 
 -- ---- a row
 
@@ -125,6 +129,22 @@ pub rows_push : (ws : List ℕ) (n : ℕ) (o : Resting) → row_words * n + 8 �
 rows_push ws n o fits =
     rows-around (set_row ws n o) (n + 1) n (omega arith)
     ∙ rw (before_same ws (n + 1) n o (omega arith) (omega arith), set_row-same ws n o fits, rows-done (set_row ws n o) (n + 1) (n + 1) (omega arith))
+
+-- ---- tests of rows, by place
+
+-- some row of the list passes a test where one by place does
+pub any_rows : (test : Resting → Bool) (some : List Resting → Bool) → some [] ≡ false → ((o : Resting) (os : List Resting) → some (o ∷ os) ≡ (test o || some os))
+    → (ws : List ℕ) (i k : ℕ) → list_any (λ j. test (row_at ws j)) (range_with_len i k) ≡ some (rows_from ws i k)
+unfolding rows_from
+any_rows test some none more ws i zero = sym none
+any_rows test some none more ws i (suc k) =
+    ap (λ b. test (row_at ws i) || b) (any_rows test some none more ws (i + 1) k) ∙ sym (more (row_at ws i) (rows_from ws (i + 1) k))
+
+-- and the first that has an id is the first place that has it
+pub find_rows : (d : OrderId) (ws : List ℕ) (i k : ℕ) → find (λ j. same_id (id_of (row_at ws j)) d) (range_with_len i k) ≡ find_row (rows_from ws i k) d i
+unfolding rows_from
+find_rows d ws i zero = refl
+find_rows d ws i (suc k) = ap (cond (same_id (id_of (row_at ws i)) d) (Some i)) (find_rows d ws (i + 1) k)
 
 -- ---- a row taken out
 

@@ -27,14 +27,7 @@ pub fn find(rows: &[u64], n: usize, id: OrderId) -> Option<usize>
     requires { Lent rows.now n }
     ensures { result ≡ find_row (rows_of rows.now n) id 0 }
 {
-    let mut i: usize = 0;
-    while i < n {
-        if has_id(book::get_row(rows, i), id) {
-            return Some(i);
-        }
-        i += 1;
-    }
-    None
+    (0..n).find(|&i| has_id(book::get_row(rows, i), id))
 }
 
 // Whether an order rests at a side and price.
@@ -49,12 +42,5 @@ pub fn has_level(rows: &[u64], n: usize, side: L3Side, price: u64) -> bool
     requires { Lent rows.now n }
     ensures { result ≡ has_level side price (line_of (rows_of rows.now n)) }
 {
-    let mut i: usize = 0;
-    while i < n {
-        if on_level(book::get_row(rows, i), side, price) {
-            return true;
-        }
-        i += 1;
-    }
-    false
+    (0..n).any(|i| on_level(book::get_row(rows, i), side, price))
 }

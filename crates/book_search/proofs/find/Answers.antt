@@ -1,19 +1,17 @@
--- The loop keeps that the search of all rows from 0 is the search of the rows from `i` on, counted from `i`. So a row that has the id is the answer at `i`,
--- one that has not can be left out, and with no row left nothing is found.
+-- The search by place, over the places 0 to below `n`, is the search of the rows.
+use mathlib.Core.Path.{◌∙◌, refl, sym}
 use native.Mathlib.Nat.{sub-zero}
-use native.Mathlib.Omega.{arith}
-use borrow.Author.Rules.{rules}
-use Rattle.book.proofs.Rows.{rows_next, rows-done}
+use Rattle.std.proofs.Common.{rules, tests}
+use Rattle.std.proofs.lemmas.Iterator.{YieldsList-from_range}
+use Rattle.std.proofs.lemmas.Iterator.Adapters.{option_map_id}
+use Rattle.std.proofs.lemmas.Iterator.Search.{find_from_yields_List}
+use Rattle.message.specs.Same.{same_id}
+use Rattle.book.specs.Rows.{row_at, id_of}
+use Rattle.book.proofs.Rows.{find_rows}
 use Rattle.book_search.proofs.find.Goals as goal
 
-pub loop-i-init : goal.loop-i-init
-loop-i-init c = (search rules, rw sub-zero)
-
-pub returns-then-has_id : goal.returns-then-has_id
-returns-then-has_id c = rw (c.loop-i.invariant.1, rows_next _ _ _ _ c.loop-i-test.true c.get_row.ensures, ← c.has_id.ensures, c.if-has_id.true)
-
-pub loop-i-preserved : goal.loop-i-preserved
-loop-i-preserved c = (omega arith, rw (c.loop-i.invariant.1, rows_next _ _ _ _ c.loop-i-test.true c.get_row.ensures, ← c.has_id.ensures, c.if-has_id.false))
-
 pub returns : goal.returns
-returns c = rw (c.loop-i.invariant.1, rows-done _ _ _ c.loop-i-test.false)
+returns c =
+    sym (option_map_id c.find.result)
+    ∙ find_from_yields_List (λ i. same_id (id_of (row_at c.args.rows.now i)) c.args.id) _ _ _ c.find.ensures.ran (YieldsList-from_range 0 c.args.n c.args.n refl (sub-zero c.args.n)) (λ x b q k. search (rules, tests))
+    ∙ find_rows c.args.id c.args.rows.now 0 c.args.n

@@ -1,19 +1,17 @@
--- The loop keeps that all rows have the level exactly where the rows from `i` on have it. So a row that rests there settles it, one that does not can be left
--- out, and with no row left there is no level.
+-- The test by place, over the places 0 to below `n`, is the test of the rows.
+use mathlib.Core.Path.{◌∙◌, refl}
 use native.Mathlib.Nat.{sub-zero}
-use native.Mathlib.Omega.{arith}
-use borrow.Author.Rules.{rules}
-use Rattle.book.proofs.Rows.{rows_next, rows-done}
+use Rattle.std.proofs.Common.{rules, tests}
+use Rattle.std.proofs.lemmas.Iterator.{YieldsList-from_range}
+use Rattle.std.proofs.lemmas.Iterator.Search.{any_from_yields_List}
+use Rattle.book.specs.Line.{has_level, same_level}
+use Rattle.book.specs.Rows.{row_at, line_of, side_of}
+use Rattle.book.specs.declared.Resting.{Resting}
+use Rattle.book.proofs.Rows.{any_rows}
 use Rattle.book_search.proofs.has_level.Goals as goal
 
-pub loop-i-init : goal.loop-i-init
-loop-i-init c = (search rules, rw sub-zero)
-
-pub returns-then-on_level : goal.returns-then-on_level
-returns-then-on_level c = rw (c.loop-i.invariant.1, rows_next _ _ _ _ c.loop-i-test.true c.get_row.ensures, ← c.on_level.ensures, c.if-on_level.true)
-
-pub loop-i-preserved : goal.loop-i-preserved
-loop-i-preserved c = (omega arith, rw (c.loop-i.invariant.1, rows_next _ _ _ _ c.loop-i-test.true c.get_row.ensures, ← c.on_level.ensures, c.if-on_level.false))
-
 pub returns : goal.returns
-returns c = rw (c.loop-i.invariant.1, rows-done _ _ _ c.loop-i-test.false)
+returns c =
+    let test = λ (o : Resting). same_level (side_of o.kind) o.price c.args.side c.args.price in
+    any_from_yields_List (λ i. test (row_at c.args.rows.now i)) _ _ _ c.any.ensures.ran (YieldsList-from_range 0 c.args.n c.args.n refl (sub-zero c.args.n)) (λ x b q k. search (rules, tests))
+    ∙ any_rows test (λ os. has_level c.args.side c.args.price (line_of os)) refl (λ o os. refl) c.args.rows.now 0 c.args.n
