@@ -37,9 +37,9 @@ use Rattle.reconstructor.specs.Inner.{trusted_to}
 use Rattle.reconstructor.proofs.Laws.{admitted-valid}
 use Rattle.reconstructor.proofs.ByValue.{applied-trusted_to}
 use Rattle.reconstructor.proofs.Kept.{refusal-counts, usable-kept}
-use Rattle.reconstructor_bootstrap.specs.declared.SnapshotAnswer.{SnapshotAnswer}
+use Rattle.reconstructor_bootstrap.specs.declared.BootstrapError.{BootstrapError}
 use Rattle.reconstructor_bootstrap.specs.declared.Work as bootstrap
-use Rattle.reconstructor_bootstrap.specs.Snapshot.{snapshot_line, piece_answer, accept_refusal, piece_refusal, boot_refusal}
+use Rattle.reconstructor_bootstrap.specs.Snapshot.{snapshot_line, piece_error, accept_refusal, piece_refusal, boot_refusal}
 use Rattle.reconstructor_bootstrap.specs.Bootstrap as boot
 use Rattle.reconstructor_bootstrap.specs.Bootstrap.{Booted, booted, refused_work, unless_refused, taken, bootstrapped_to, bootstrapped}
 use Rattle.reconstructor_bootstrap.specs.Places.{usable_to}
@@ -85,7 +85,7 @@ module _ (b : BookReconstructor) (mem : Memory) (g : Segment) (m : L3Message) (u
 
 -- a snapshot starts one where it is taken
 module _ (b : BookReconstructor) (mem : Memory) (g : Segment) (bytes : List ℕ) (u : Usable ceiling b mem day_segments) where
-  abbrev refusal : Option SnapshotAnswer
+  abbrev refusal : Option BootstrapError
   refusal = boot_refusal ceiling b.product_id b.rules (lengths_with mem day_segments) (broken b mem) (view_with b mem g) bytes
 
   -- 6 is said where the list is full
@@ -105,9 +105,9 @@ module _ (b : BookReconstructor) (mem : Memory) (g : Segment) (bytes : List ℕ)
   unfolding bootstrapped_to
   snapshot-starts = go refusal refl (read_snapshot bytes)
     where
-      go : (o : Option SnapshotAnswer) → refusal ≡ o → (r : Result L3Snapshot PieceError) → Starts b g (by_bootstrap_to (unless_refused o b mem day_segments g (taken r b mem day_segments g bytes)))
+      go : (o : Option BootstrapError) → refusal ≡ o → (r : Result L3Snapshot PieceError) → Starts b g (by_bootstrap_to (unless_refused o b mem day_segments g (taken r b mem day_segments g bytes)))
       go (Some a) h r = stays refl (ap (λ (x : BookReconstructor). x.segments) (counts_alone a b)) (λ z. refl)
-      go None h (Err e) = stays refl (ap (λ (x : BookReconstructor). x.segments) (counts_alone (piece_answer e) b)) (λ z. refl)
+      go None h (Err e) = stays refl (ap (λ (x : BookReconstructor). x.segments) (counts_alone (piece_error e) b)) (λ z. refl)
       go None h (Ok s) = begins refl (room h) refl
 
 pub piece-starts : (b : BookReconstructor) (mem : Memory) (g : Segment) (bytes : List ℕ) → Usable ceiling b mem day_segments → Starts b g (played_to b mem g bytes)
@@ -126,7 +126,7 @@ module _ (top : ℕ) (b : BookReconstructor) (mem : Memory) (lent : ℕ) (g h : 
   abbrev Same : Booted → Booted → Type 0
   Same x y = (x.book ≡ y.book) × (x.memory ≡ y.memory)
 
-  abbrev refused_for : Segment → Result L3Snapshot PieceError → Option SnapshotAnswer
+  abbrev refused_for : Segment → Result L3Snapshot PieceError → Option BootstrapError
   refused_for x r = piece_refusal b.product_id b.rules (lengths_with mem lent) (view_with b mem x) r bytes
 
   same-refusal : (r : Result L3Snapshot PieceError) → refused_for g r ≡ refused_for h r
@@ -138,7 +138,7 @@ module _ (top : ℕ) (b : BookReconstructor) (mem : Memory) (lent : ℕ) (g h : 
   unfolding bootstrapped_to boot_refusal
   any-record = rw (same-refusal (read_snapshot bytes)) (go (boot_refusal top b.product_id b.rules (lengths_with mem lent) (broken b mem) (view_with b mem h) bytes) (read_snapshot bytes))
     where
-      go : (o : Option SnapshotAnswer) (r : Result L3Snapshot PieceError) → Same (unless_refused o b mem lent g (taken r b mem lent g bytes)) (unless_refused o b mem lent h (taken r b mem lent h bytes))
+      go : (o : Option BootstrapError) (r : Result L3Snapshot PieceError) → Same (unless_refused o b mem lent g (taken r b mem lent g bytes)) (unless_refused o b mem lent h (taken r b mem lent h bytes))
       go (Some a) r = (refl, refl)
       go None (Err e) = (refl, refl)
       go None (Ok s) = (refl, refl)
@@ -147,7 +147,7 @@ module _ (b : BookReconstructor) (mem : Memory) (g : Segment) (bytes : List ℕ)
   abbrev blank : List Segment
   blank = replicate day_segments no_segment
 
-  on_a-list : (o : Option SnapshotAnswer) → refusal_of ceiling b mem blank bytes ≡ o
+  on_a-list : (o : Option BootstrapError) → refusal_of ceiling b mem blank bytes ≡ o
       → Usable ceiling (bootstrapped ceiling b mem blank bytes).book (bootstrapped ceiling b mem blank bytes).memory (length (bootstrapped ceiling b mem blank bytes).segments)
   on_a-list (Some a) h = refused-usable ceiling b mem blank bytes a h u
   on_a-list None h = accepted-usable ceiling b mem blank bytes h
@@ -178,7 +178,7 @@ pub unread-played : (b : BookReconstructor) (mem : Memory) (g : Segment) (bytes 
     → unstarted (piece_number e) b mem g ≡ by_bootstrap_to (bootstrapped_to ceiling b mem day_segments g bytes)
 unread-played b mem g bytes e u q = said e ∙ ap by_bootstrap_to (not-read ceiling b mem day_segments g bytes (usable-none ceiling b mem day_segments u) e q)
   where
-    said : (x : PieceError) → unstarted (piece_number x) b mem g ≡ by_bootstrap_to (booted (refused_work (piece_answer x) b day_segments g) mem)
+    said : (x : PieceError) → unstarted (piece_number x) b mem g ≡ by_bootstrap_to (booted (refused_work (piece_error x) b day_segments g) mem)
     said pieces.NotAPiece = refl
     said pieces.OutOfRange = refl
 
@@ -201,7 +201,7 @@ module _ (b : BookReconstructor) (ws vs : List ℕ) (g : Segment) (bytes : List 
   untaken = subst (λ (x : Booted). day_segments ≤ x.at → orders_of x.memory x.book.rows ≡ orders_of (memory ws) b.rows) (sym e)
       (go (accept_refusal b.product_id b.rules (lengths_with (memory ws) day_segments) (view_with b (memory ws) g) s (snapshot_line s bytes)) refl)
     where
-      go : (o : Option SnapshotAnswer) → accept_refusal b.product_id b.rules (lengths_with (memory ws) day_segments) (view_with b (memory ws) g) s (snapshot_line s bytes) ≡ o
+      go : (o : Option BootstrapError) → accept_refusal b.product_id b.rules (lengths_with (memory ws) day_segments) (view_with b (memory ws) g) s (snapshot_line s bytes) ≡ o
           → day_segments ≤ (unless_refused o b (memory ws) day_segments g (boot.accepted b (memory ws) g s.sequence (snapshot_line s bytes))).at
           → orders_of (unless_refused o b (memory ws) day_segments g (boot.accepted b (memory ws) g s.sequence (snapshot_line s bytes))).memory (unless_refused o b (memory ws) day_segments g (boot.accepted b (memory ws) g s.sequence (snapshot_line s bytes))).book.rows
           ≡ orders_of (memory ws) b.rows

@@ -17,6 +17,7 @@ use daybook_segments::DAY_SEGMENTS;
 use piece_messages::read_message;
 use piece_snapshots::read_snapshot;
 use reconstructor_apply_run::apply_in_run;
+use reconstructor_bootstrap::snapshot_number;
 use reconstructor_bootstrap_usable::bootstrap_usable;
 use reconstructor_segments::Segment;
 use reconstructor_state::BookReconstructor;
@@ -90,13 +91,12 @@ fn play_snapshot(
         Err(error) => unstarted(error.number(), book, last, bounds),
         Ok(snapshot) => {
             let work = bootstrap_usable(book, rows, DAY_SEGMENTS, last, bytes, snapshot);
-            let answer = work.answer;
             let next = work.book;
             let segment = work.segment;
             let started = work.started;
             let bounds = index_after(rows, next.rows, places, bounds, work.at < DAY_SEGMENTS);
             Turn {
-                number: answer.number(),
+                number: snapshot_number(work.answer),
                 book: next,
                 segment,
                 at: work.at,

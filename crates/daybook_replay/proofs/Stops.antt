@@ -38,11 +38,11 @@ use Rattle.reconstructor.specs.Applied.{refused_reply, invalidated_reply, accept
 use Rattle.reconstructor.specs.Refusals.{status_refusal, admit_refusal, turn_refusal}
 use Rattle.reconstructor.proofs.ByValue.{applied-trusted_to}
 use Rattle.reconstructor.proofs.Kept.{usable-kept}
-use Rattle.reconstructor_bootstrap.specs.declared.SnapshotAnswer.{SnapshotAnswer}
-use Rattle.reconstructor_bootstrap.specs.declared.SnapshotAnswer.TheVariants as boots
+use Rattle.reconstructor_bootstrap.specs.declared.BootstrapError.{BootstrapError}
+use Rattle.reconstructor_bootstrap.specs.declared.BootstrapError.TheVariants as boots
 use Rattle.reconstructor_bootstrap.specs.declared.SnapshotError.{SnapshotError}
 use Rattle.reconstructor_bootstrap.specs.declared.SnapshotError.TheVariants as errors
-use Rattle.reconstructor_bootstrap.specs.Numbers.{snapshot_number}
+use Rattle.reconstructor_bootstrap.specs.Numbers.{bootstrap_error_number, snapshot_number}
 use Rattle.reconstructor_bootstrap.specs.Snapshot.{snapshot_line, snapshot_refusal, accept_refusal, piece_refusal, boot_refusal}
 use Rattle.reconstructor_bootstrap.specs.Bootstrap.{unless_refused, taken, bootstrapped_to}
 use Rattle.daybook_file.specs.DayFile.{pieces_of, product_of}
@@ -70,7 +70,7 @@ piece-passes pieces.OutOfRange h = inr (inl refl)
 
 -- ---- a snapshot
 
-error-passes : (e : SnapshotError) → Passes (snapshot_number (boots.Rejected e))
+error-passes : (e : SnapshotError) → Passes (bootstrap_error_number (boots.Rejected e))
 error-passes errors.WrongProduct h = absurd_bool h
 error-passes errors.DuplicateId h = absurd_bool h
 error-passes errors.InvalidValue h = absurd_bool h
@@ -78,9 +78,9 @@ error-passes errors.Crossed h = absurd_bool h
 error-passes errors.CapacityExceeded h = absurd_bool h
 
 -- what a snapshot is turned away for once 1, 2 and 3 are passed
-abbrev AllPass : Option SnapshotAnswer → Type 0
+abbrev AllPass : Option BootstrapError → Type 0
 AllPass None = Unit {0}
-AllPass (Some a) = Passes (snapshot_number a)
+AllPass (Some e) = Passes (bootstrap_error_number e)
 
 checked_pass : (b : Bool) (x : Option SnapshotError) → AllPass (check b boots.ListFull (first x boots.Rejected None))
 unfolding check first
@@ -95,7 +95,7 @@ module _ (b : BookReconstructor) (mem : Memory) (g : Segment) (bytes : List ℕ)
   read-passes (Err pieces.OutOfRange) = piece-passes pieces.OutOfRange
   read-passes (Ok s) = checked_pass (eqb day_segments b.segments) (snapshot_refusal b.product_id b.rules s (snapshot_line s bytes))
 
-  abbrev refusal : Option SnapshotAnswer
+  abbrev refusal : Option BootstrapError
   refusal = boot_refusal ceiling b.product_id b.rules (lengths_with mem day_segments) (broken b mem) (view_with b mem g) bytes
 
   refusal-passes : AllPass refusal
@@ -106,7 +106,7 @@ module _ (b : BookReconstructor) (mem : Memory) (g : Segment) (bytes : List ℕ)
   unfolding bootstrapped_to
   snapshot-passes = go refusal refusal-passes (read_snapshot bytes)
     where
-      go : (o : Option SnapshotAnswer) → AllPass o → (r : Result L3Snapshot PieceError) → Passes (snapshot_number (unless_refused o b mem day_segments g (taken r b mem day_segments g bytes)).answer)
+      go : (o : Option BootstrapError) → AllPass o → (r : Result L3Snapshot PieceError) → Passes (snapshot_number (unless_refused o b mem day_segments g (taken r b mem day_segments g bytes)).answer)
       go (Some a) p r = p
       go None p (Err pieces.NotAPiece) = piece-passes pieces.NotAPiece
       go None p (Err pieces.OutOfRange) = piece-passes pieces.OutOfRange

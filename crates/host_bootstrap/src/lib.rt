@@ -11,6 +11,7 @@ use host_records_store::{put_record, rewrite_record};
 use host_word_tests::list_short;
 use host_words::load_book;
 use host_words_store::store_book;
+use reconstructor_bootstrap::snapshot_number;
 
 pub fn bootstrap(state: &mut [u64], rows: &mut [u64], segments: &mut [u64], bytes: &[u8]) -> u64
     ensures { called result state.new rows.new segments.new ≡ bootstrap_call state.old rows.old segments.old bytes.now }
@@ -27,8 +28,7 @@ pub fn bootstrap(state: &mut [u64], rows: &mut [u64], segments: &mut [u64], byte
     let work = reconstructor_bootstrap_work::bootstrap_by_value(book, rows, lent, last, bytes);
     rewrite_record(segments, count, work.segment);
     put_record(segments, work.at, work.started);
-    let answer = work.answer;
-    let number = answer.number();
+    let number = snapshot_number(work.answer);
     store_book(state, work.book, number == 0);
     number
 }

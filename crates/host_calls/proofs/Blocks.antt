@@ -28,10 +28,10 @@ use Rattle.reconstructor_plan.specs.Rules.{answer_by, event_deed}
 use Rattle.reconstructor.specs.Refusals.{turn_refusal}
 use Rattle.reconstructor.specs.Applied.{refused_book, refused_reply, invalidated_reply, accepted_reply, accepted, decided, after_gate, book_gate, applied_to, applied, put_back}
 use Rattle.reconstructor_bootstrap.specs.declared.SnapshotError.TheVariants.{WrongProduct, DuplicateId, InvalidValue, Crossed, CapacityExceeded}
-use Rattle.reconstructor_bootstrap.specs.declared.SnapshotAnswer.{SnapshotAnswer}
-use Rattle.reconstructor_bootstrap.specs.declared.SnapshotAnswer.TheVariants.{Bootstrapped, Unusable, NotAPiece, AmountOutOfRange, ListFull, Rejected}
-use Rattle.reconstructor_bootstrap.specs.Numbers.{snapshot_number}
-use Rattle.reconstructor_bootstrap.specs.Snapshot.{piece_answer}
+use Rattle.reconstructor_bootstrap.specs.declared.BootstrapError.{BootstrapError}
+use Rattle.reconstructor_bootstrap.specs.declared.BootstrapError.TheVariants.{Unusable, NotAPiece, AmountOutOfRange, ListFull, Rejected}
+use Rattle.reconstructor_bootstrap.specs.Numbers.{bootstrap_error_number}
+use Rattle.reconstructor_bootstrap.specs.Snapshot.{piece_error}
 use Rattle.reconstructor_bootstrap.specs.Bootstrap as boot
 use Rattle.host_records.specs.Records.{records_in, records_of, relaid}
 use Rattle.reconstructor_answers.specs.Numbers.{answer_number}
@@ -145,9 +145,8 @@ module _ (st ws sg m : List ℕ) where
 
 -- ---- `pinuglaw_bootstrap`
 
-rejected-words : (st : List ℕ) (x : SnapshotAnswer) → state_words ≤ length st → eqb (snapshot_number x) 0 ≡ false
-    → restored st (eqb (snapshot_number x) 0) (boot.refused_book x (book_of st)) ≡ cond (ltb (snapshot_number x) 10 || ltb 14 (snapshot_number x)) st (raised st 26)
-rejected-words st Bootstrapped long h = absurd_bool h
+rejected-words : (st : List ℕ) (x : BootstrapError) → state_words ≤ length st → eqb (bootstrap_error_number x) 0 ≡ false
+    → restored st (eqb (bootstrap_error_number x) 0) (boot.refused_book x (book_of st)) ≡ cond (ltb (bootstrap_error_number x) 10 || ltb 14 (bootstrap_error_number x)) st (raised st 26)
 rejected-words st (Unusable LimitAboveCeiling) long h = block_same st long
 rejected-words st (Unusable LentTooShort) long h = block_same st long
 rejected-words st (Unusable MalformedBook) long h = block_same st long
@@ -171,10 +170,10 @@ module _ (st ws sg bytes : List ℕ) where
   abbrev written : boot.Booted → BookCall
   written w = after_bootstrap st sg (boot.put_back (records_of sg) (book_of st).segments w)
 
-  abbrev found : Option SnapshotAnswer → Result L3Snapshot PieceError → boot.Booted
+  abbrev found : Option BootstrapError → Result L3Snapshot PieceError → boot.Booted
   found o r = boot.unless_refused o (book_of st) (memory ws) many last_one (boot.taken r (book_of st) (memory ws) many last_one bytes)
 
-  abbrev rejected : SnapshotAnswer → BookCall
+  abbrev rejected : BootstrapError → BookCall
   rejected x = written (boot.booted (boot.refused_work x (book_of st) many last_one) (memory ws))
 
   rejected-list : relaid sg (set (relast (records_of sg) (book_of st).segments last_one) many no_segment) ≡ sg
@@ -183,16 +182,16 @@ module _ (st ws sg bytes : List ℕ) where
       ∙ ap (relaid sg) (set_out (records_of sg) many no_segment (omega arith))
       ∙ relaid-same sg
 
-  rejected-leaves : (x : SnapshotAnswer) → state_words ≤ length st → eqb (snapshot_number x) 0 ≡ false → rejected x ≡ snapshot_leaves (snapshot_number x) st ws sg
-  rejected-leaves x long h = ap₂ (λ (l t : List ℕ). called (snapshot_number x) l ws t) (rejected-words st x long h) rejected-list
+  rejected-leaves : (x : BootstrapError) → state_words ≤ length st → eqb (bootstrap_error_number x) 0 ≡ false → rejected x ≡ snapshot_leaves (bootstrap_error_number x) st ws sg
+  rejected-leaves x long h = ap₂ (λ (l t : List ℕ). called (bootstrap_error_number x) l ws t) (rejected-words st x long h) rejected-list
 
-  left-refused : (o : Option SnapshotAnswer) (r : Result L3Snapshot PieceError) → state_words ≤ length st → eqb (written (found o r)).number 0 ≡ false
+  left-refused : (o : Option BootstrapError) (r : Result L3Snapshot PieceError) → state_words ≤ length st → eqb (written (found o r)).number 0 ≡ false
       → written (found o r) ≡ snapshot_leaves (written (found o r)).number st ws sg
   left-refused (Some a) r long h = rejected-leaves a long h
-  left-refused None (Err p) long h = rejected-leaves (piece_answer p) long h
+  left-refused None (Err p) long h = rejected-leaves (piece_error p) long h
   left-refused None (Ok s) long h = absurd_bool h
 
-  abbrev refusal : Option SnapshotAnswer
+  abbrev refusal : Option BootstrapError
   refusal = refusal_of ceiling (book_of st) (memory ws) (records_of sg) bytes
 
   abbrev left_by : ℕ → BookCall
@@ -207,15 +206,15 @@ module _ (st ws sg bytes : List ℕ) where
       (λ p. left-refused refusal (read_snapshot bytes) p.whole)
 
   module _ (long : state_words ≤ length st) where
-    rejected-state : (x : SnapshotAnswer) → book_of (rejected x).state ≡ boot.refused_book x (book_of st)
+    rejected-state : (x : BootstrapError) → book_of (rejected x).state ≡ boot.refused_book x (book_of st)
     rejected-state x =
         let b = book_of st in
         rw (counts_alone x b)
-        (block_back st (eqb (snapshot_number x) 0) b.status b.rows b.segments (boot.refused_book x b).counts long (λ e. refl))
+        (block_back st (eqb (bootstrap_error_number x) 0) b.status b.rows b.segments (boot.refused_book x b).counts long (λ e. refl))
 
-    left-state : (o : Option SnapshotAnswer) (r : Result L3Snapshot PieceError) → book_of (written (found o r)).state ≡ (found o r).book
+    left-state : (o : Option BootstrapError) (r : Result L3Snapshot PieceError) → book_of (written (found o r)).state ≡ (found o r).book
     left-state (Some x) r = rejected-state x
-    left-state None (Err e) = rejected-state (piece_answer e)
+    left-state None (Err e) = rejected-state (piece_error e)
     left-state None (Ok s) = block_back st true _ _ _ _ long (λ e. absurd_bool e)
 
     pub bootstrap-state : no_book st ≡ false → book_of (bootstrap_call st ws sg bytes).state ≡ (boot.bootstrapped ceiling (book_of st) (memory ws) (records_of sg) bytes).book

@@ -14,7 +14,7 @@ use Rattle.reconstructor_state.specs.declared.VenueRules.{VenueRules}
 use Rattle.reconstructor_state.specs.State.{View, Lengths, last_of}
 use Rattle.reconstructor.specs.Refusals.{gate_refusal, turn_refusal}
 use Rattle.reconstructor.proofs.Kept.{turn-event}
-use Rattle.reconstructor_bootstrap.specs.declared.SnapshotAnswer.{SnapshotAnswer}
+use Rattle.reconstructor_bootstrap.specs.declared.BootstrapError.{BootstrapError}
 use Rattle.reconstructor_bootstrap.specs.Snapshot.{snapshot_line}
 use Rattle.reconstructor_handshake.specs.declared.Handshake.{Handshake}
 use Rattle.reconstructor_handshake.specs.declared.StepAnswer.{StepAnswer}
@@ -55,7 +55,7 @@ by_tallies v m w f (invalidates k) h t = t
 by_tallies v m w f dropped h t = t
 by_tallies v m w f accepted h t = event_tallies v w.line m.sequence m.event f t (turn-event v w.line (last_of w.status) m (h refl))
 
-boot_tallies : (k : Option SnapshotAnswer) (s : Result L3Snapshot PieceError) (bytes : List ℕ) (w : View) (f : Figure) → Tallies f w.line
+boot_tallies : (k : Option BootstrapError) (s : Result L3Snapshot PieceError) (bytes : List ℕ) (w : View) (f : Figure) → Tallies f w.line
     → Tallies (figure_boot k s bytes f) (view_boot k s bytes w).line
 boot_tallies (Some a) s bytes w f t = t
 boot_tallies None (Err e) bytes w f t = t

@@ -29,8 +29,8 @@ use Rattle.reconstructor_plan.specs.Rules.{event_deed}
 use Rattle.reconstructor.specs.Refusals.{gate_refusal, turn_refusal}
 use Rattle.reconstructor.specs.Applied.{refused_reply, invalidated_reply, accepted_reply, accepted as accepted_core, decided, after_gate, book_gate, applied_to, applied}
 use Rattle.reconstructor.proofs.Laws.{gate-trusted}
-use Rattle.reconstructor_bootstrap.specs.declared.SnapshotAnswer.{SnapshotAnswer}
-use Rattle.reconstructor_bootstrap.specs.declared.SnapshotAnswer.TheVariants as snapshots
+use Rattle.reconstructor_bootstrap.specs.declared.BootstrapError.{BootstrapError}
+use Rattle.reconstructor_bootstrap.specs.declared.BootstrapError.TheVariants as snapshots
 use Rattle.reconstructor_bootstrap.specs.Snapshot.{boot_refusal}
 use Rattle.reconstructor_bootstrap.specs.Bootstrap as boot
 use Rattle.reconstructor_bootstrap.specs.Bootstrap.{bootstrapped}
@@ -172,8 +172,7 @@ module _ (top : ℕ) (b : BookReconstructor) (mem : Memory) (sg : List Segment) 
         go₁ false p = go₂ p (not (event_in_range m.event)) refl
 
   module _ (bytes : List ℕ) where
-    rejected-counted : (x : SnapshotAnswer) → (boot.refused_book x b).counts ≡ counted_by (snapshot_place (Some x)) b.counts
-    rejected-counted snapshots.Bootstrapped = refl
+    rejected-counted : (x : BootstrapError) → (boot.refused_book x b).counts ≡ counted_by (snapshot_place (Some x)) b.counts
     rejected-counted (snapshots.Unusable e) = refl
     rejected-counted snapshots.NotAPiece = refl
     rejected-counted snapshots.AmountOutOfRange = refl
@@ -184,7 +183,7 @@ module _ (top : ℕ) (b : BookReconstructor) (mem : Memory) (sg : List Segment) 
     unfolding place_in
     boot-counted = rw (boot-same top b mem sg s u st bytes) (go (refusal_of top b mem sg bytes) refl)
       where
-        go : (o : Option SnapshotAnswer) → refusal_of top b mem sg bytes ≡ o → (bootstrapped top b mem sg bytes).book.counts ≡ counted_by (snapshot_place o) b.counts
+        go : (o : Option BootstrapError) → refusal_of top b mem sg bytes ≡ o → (bootstrapped top b mem sg bytes).book.counts ≡ counted_by (snapshot_place o) b.counts
         go (Some x) q = ap (λ (p : boot.Parts). p.book.counts) (refused_is top b mem sg bytes x q) ∙ rejected-counted x
         go None q = ap (λ (p : boot.Parts). p.book.counts) (is-accepted top b mem sg bytes q).is
 

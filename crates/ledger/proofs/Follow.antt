@@ -34,7 +34,7 @@ use Rattle.reconstructor.specs.Applied.{applied}
 use Rattle.reconstructor.proofs.Laws.{gate-stops}
 use Rattle.reconstructor.proofs.Kept.{refusal-leaves}
 use Rattle.reconstructor_bootstrap.specs.Snapshot.{boot_refusal}
-use Rattle.reconstructor_bootstrap.specs.declared.SnapshotAnswer.TheVariants as snapshots
+use Rattle.reconstructor_bootstrap.specs.declared.BootstrapError.TheVariants as snapshots
 use Rattle.reconstructor_bootstrap.specs.Bootstrap.{bootstrapped}
 use Rattle.reconstructor_bootstrap.proofs.Laws.{refusal_of, refused_is}
 use Rattle.reconstructor_handshake.specs.declared.Handshake.{Handshake}

@@ -25,7 +25,7 @@ use Rattle.reconstructor_plan.specs.Rules.{effect, event_deed}
 use Rattle.reconstructor.specs.Refusals.{turn_refusal}
 use Rattle.reconstructor.specs.Applied.{refused_reply, invalidated_reply, accepted_reply, accepted as accepted_core, decided, after_gate, book_gate, applied_to, applied}
 use Rattle.reconstructor.proofs.Kept.{usable-kept}
-use Rattle.reconstructor_bootstrap.specs.declared.SnapshotAnswer.{SnapshotAnswer}
+use Rattle.reconstructor_bootstrap.specs.declared.BootstrapError.{BootstrapError}
 use Rattle.reconstructor_bootstrap.specs.Snapshot.{snapshot_line}
 use Rattle.reconstructor_bootstrap.specs.Bootstrap.{Parts as SnapshotParts, refused_book, closed, bootstrapped}
 use Rattle.reconstructor_bootstrap.proofs.Laws.{refusal_of, refused_is, counts_alone, is-accepted}
@@ -127,7 +127,7 @@ module _ (top : ℕ) (b : BookReconstructor) (mem : Memory) (sg : List Segment) 
   pub boot-left : BootLeft (bootstrapped top b mem sg bytes)
   boot-left = go (refusal_of top b mem sg bytes) refl
     where
-      go : (o : Option SnapshotAnswer) → refusal_of top b mem sg bytes ≡ o → BootLeft (bootstrapped top b mem sg bytes)
+      go : (o : Option BootstrapError) → refusal_of top b mem sg bytes ≡ o → BootLeft (bootstrapped top b mem sg bytes)
       go (Some x) q =
           let e : refused_book x b ≡ with_counts b (refused_book x b).counts = counts_alone x b in
           rw (refused_is top b mem sg bytes x q)

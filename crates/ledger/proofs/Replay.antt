@@ -22,7 +22,7 @@ use Rattle.reconstructor_state.proofs.Checks.{passed, goes_on, first-passed, fir
 use Rattle.reconstructor_checks.specs.StateChecks.{memory_short, state_refusal}
 use Rattle.reconstructor_plan.specs.Rules.{effect}
 use Rattle.reconstructor.specs.Refusals.{status_refusal, admit_refusal, gate_refusal, turn_refusal}
-use Rattle.reconstructor_bootstrap.specs.declared.SnapshotAnswer.{SnapshotAnswer}
+use Rattle.reconstructor_bootstrap.specs.declared.BootstrapError.{BootstrapError}
 use Rattle.reconstructor_bootstrap.specs.Snapshot.{accept_refusal, piece_refusal, boot_refusal}
 use Rattle.ledger.specs.Ledger.{Config, Call, bootstrap, apply, step, read, blank, Outcome, refused, invalidates, dropped, accepted, outcome_of, apply_outcome, boot_outcome, view_by, view_boot, snap_view, feed_view}
 use Rattle.ledger.specs.Kept.{kept_by, kept_boot, kept_after, kept_all, kept}
@@ -132,7 +132,7 @@ module _ (top : ℕ) (c : Config) (k : ℕ) where
   unfolding feed_view
   boot-first n v bytes x e h = rw (boot-again top c n v bytes h, e) (record { line = refl; last = refl; fewer = omega arith; up = λ _. refl })
 
-  boot-repeats : (n : Lengths) (v : View) (bytes : List ℕ) (ks : List Call) (o : Option SnapshotAnswer) (s : Result L3Snapshot PieceError) → read_snapshot bytes ≡ s
+  boot-repeats : (n : Lengths) (v : View) (bytes : List ℕ) (ks : List Call) (o : Option BootstrapError) (s : Result L3Snapshot PieceError) → read_snapshot bytes ≡ s
       → (o ≡ None → boot_outcome top c n v bytes ≡ None) → Repeats v (view_all top (numbered c k) blank ks)
       → Repeats (view_boot o s bytes v) (view_all top (numbered c k) blank (kept_boot o s ks (bootstrap n bytes)))
   boot-repeats n v bytes ks (Some a) s e h r = r

@@ -18,7 +18,7 @@ use Rattle.reconstructor_state.specs.declared.Status.TheVariants as statuses
 use Rattle.reconstructor_state.specs.State.{View, Lengths}
 use Rattle.reconstructor_state.proofs.Checks.{first-passed}
 use Rattle.reconstructor.specs.Refusals.{status_refusal, gate_refusal}
-use Rattle.reconstructor_bootstrap.specs.declared.SnapshotAnswer.{SnapshotAnswer}
+use Rattle.reconstructor_bootstrap.specs.declared.BootstrapError.{BootstrapError}
 use Rattle.reconstructor_handshake.specs.declared.Handshake.{Handshake}
 use Rattle.reconstructor_handshake.specs.declared.StepAnswer.{StepAnswer}
 use Rattle.ledger.specs.Ledger.{Config, Call, bootstrap, apply, step, read, blank, Outcome, refused, invalidates, dropped, accepted, outcome_of, apply_outcome, step_outcome_of, step_outcome, boot_outcome, view_by, view_boot, feed_view}
@@ -78,7 +78,7 @@ by-frozen r m v ks k (invalidates i) h q = record { was = inr (h tt); kept = ref
 by-frozen r m v ks k dropped h q = record { was = inl q; kept = refl; line = refl }
 by-frozen r m v ks k accepted h q = let z : ◌≡◌ {A = ℕ} 0 1 = cc in absurd (omega arith)
 
-boot-frozen : (v : View) (ks : List Call) (k : Call) (bytes : List ℕ) (s : Result L3Snapshot PieceError) (o : Option SnapshotAnswer)
+boot-frozen : (v : View) (ks : List Call) (k : Call) (bytes : List ℕ) (s : Result L3Snapshot PieceError) (o : Option BootstrapError)
     → standing_of (view_boot o s bytes v).status ≡ invalid → Frozen v (view_boot o s bytes v) ks (kept_boot o s ks k)
 boot-frozen v ks k bytes s (Some a) q = record { was = inl q; kept = refl; line = refl }
 boot-frozen v ks k bytes (Err e) None q = record { was = inl q; kept = refl; line = refl }

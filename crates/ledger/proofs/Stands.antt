@@ -41,7 +41,7 @@ use Rattle.message.specs.Values.{event_in_range}
 use Rattle.piece.specs.Piece.{read_snapshot}
 use Rattle.reconstructor_counts.specs.declared.MessageCounts.{MessageCounts}
 use Rattle.reconstructor_state.specs.State.{segment_of}
-use Rattle.reconstructor_bootstrap.specs.declared.SnapshotAnswer.{SnapshotAnswer}
+use Rattle.reconstructor_bootstrap.specs.declared.BootstrapError.{BootstrapError}
 use Rattle.reconstructor_bootstrap.specs.Snapshot.{snapshot_line, piece_refusal, accept_refusal, boot_refusal}
 use Rattle.reconstructor_bootstrap.specs.Bootstrap.{Parts as SnapshotParts, refused_book as refused_boot, closed, bootstrapped}
 use Rattle.reconstructor_bootstrap.proofs.Laws.{refusal_of, refused_is, counts_alone, accepted_parts, is-accepted, accepted-usable}
@@ -243,7 +243,7 @@ module _ (top : ℕ) (b : BookReconstructor) (mem : Memory) (sg : List Segment) 
 -- ---- `bootstrap`, lent enough
 
 module _ (top : ℕ) (b : BookReconstructor) (mem : Memory) (sg : List Segment) (s : ℕ) (u : Usable top b mem (length sg)) (st : Starts s b sg) (bytes : List ℕ) where
-  abbrev BootStands : Option SnapshotAnswer → SnapshotParts → Type 0
+  abbrev BootStands : Option BootstrapError → SnapshotParts → Type 0
   BootStands o p = Stands (config_of b) p.book p.memory p.segments (view_boot o (read_snapshot bytes) bytes (seen s b mem))
 
   pub boot-same : boot_outcome top (config_of b) (lengths_of mem sg) (seen s b mem) bytes ≡ refusal_of top b mem sg bytes
@@ -255,7 +255,7 @@ module _ (top : ℕ) (b : BookReconstructor) (mem : Memory) (sg : List Segment) 
       piece-same (Err e) = refl
       piece-same (Ok x) = accept-same b mem sg s x bytes
 
-  counted-stands : (x : SnapshotAnswer) → Stands (config_of b) (refused_boot x b) mem sg (seen s b mem)
+  counted-stands : (x : BootstrapError) → Stands (config_of b) (refused_boot x b) mem sg (seen s b mem)
   unfolding broken
   counted-stands x = rw (counts_alone x b) (record { config = refl; view = refl; start = st; sound = u.sound })
 
@@ -297,6 +297,6 @@ module _ (top : ℕ) (b : BookReconstructor) (mem : Memory) (sg : List Segment) 
   pub boot-stands : BootStands (boot_outcome top (config_of b) (lengths_of mem sg) (seen s b mem) bytes) (bootstrapped top b mem sg bytes)
   boot-stands = rw boot-same (go (refusal_of top b mem sg bytes) refl)
     where
-      go : (o : Option SnapshotAnswer) → refusal_of top b mem sg bytes ≡ o → BootStands o (bootstrapped top b mem sg bytes)
+      go : (o : Option BootstrapError) → refusal_of top b mem sg bytes ≡ o → BootStands o (bootstrapped top b mem sg bytes)
       go (Some x) q = rw (refused_is top b mem sg bytes x q) (counted-stands x)
       go None q = taken-stands q

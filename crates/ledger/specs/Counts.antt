@@ -14,8 +14,8 @@ use Rattle.reconstructor_state.specs.declared.VenueRules.{VenueRules}
 use Rattle.reconstructor_state.specs.State.{View, Lengths, last_of}
 use Rattle.reconstructor_plan.specs.Rules.{counter_of}
 use Rattle.reconstructor.specs.Refusals.{gate_refusal, turn_refusal}
-use Rattle.reconstructor_bootstrap.specs.declared.SnapshotAnswer.{SnapshotAnswer}
-use Rattle.reconstructor_bootstrap.specs.declared.SnapshotAnswer.TheVariants as snapshots
+use Rattle.reconstructor_bootstrap.specs.declared.BootstrapError.{BootstrapError}
+use Rattle.reconstructor_bootstrap.specs.declared.BootstrapError.TheVariants as snapshots
 use Rattle.reconstructor_handshake.specs.declared.StepAnswer.{StepAnswer}
 use Rattle.reconstructor_handshake.specs.Step.{step_refusal}
 use Rattle.reconstructor_handshake_rules.specs.Drops.{drops}
@@ -45,9 +45,8 @@ step_place (Some a) d o = None
 step_place None d o = cond d (Some counters.HandshakeDropped) o
 
 -- 01, bootstrap: "Refusals 10 to 14 add one to rejected_snapshots"
-abbrev pub snapshot_place : Option SnapshotAnswer → Option Counter
+abbrev pub snapshot_place : Option BootstrapError → Option Counter
 snapshot_place None = None
-snapshot_place (Some snapshots.Bootstrapped) = None
 snapshot_place (Some (snapshots.Unusable e)) = None
 snapshot_place (Some snapshots.NotAPiece) = None
 snapshot_place (Some snapshots.AmountOutOfRange) = None

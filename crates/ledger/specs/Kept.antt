@@ -2,7 +2,7 @@
 use Rattle.std.specs.Prelude.{ℕ, false, List, [], ◌∷◌, ◌++◌, Option, Some, None, Result, Ok, Err}
 use Rattle.piece.specs.Piece.{read_snapshot}
 use Rattle.reconstructor_state.specs.State.{View}
-use Rattle.reconstructor_bootstrap.specs.declared.SnapshotAnswer.{SnapshotAnswer}
+use Rattle.reconstructor_bootstrap.specs.declared.BootstrapError.{BootstrapError}
 use Rattle.ledger.specs.Ledger.{Config, Call, bootstrap, apply, step, read, blank, Outcome, refused, invalidates, dropped, accepted, apply_outcome, step_outcome, boot_outcome, feed_view}
 use Rattle.message.specs.declared.L3Snapshot.{L3Snapshot}
 use Rattle.piece.specs.declared.PieceError.{PieceError}
@@ -14,8 +14,8 @@ kept_by (invalidates i) ks k = ks
 kept_by dropped ks k = ks
 kept_by accepted ks k = ks ++ (k ∷ [])
 
-abbrev pub kept_boot : {A : Type 0} → Option SnapshotAnswer → Result L3Snapshot PieceError → List A → A → List A
-kept_boot (Some a) s ks k = ks
+abbrev pub kept_boot : {A : Type 0} → Option BootstrapError → Result L3Snapshot PieceError → List A → A → List A
+kept_boot (Some e) s ks k = ks
 kept_boot None (Err e) ks k = ks
 kept_boot None (Ok s) ks k = k ∷ []
 

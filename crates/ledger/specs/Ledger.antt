@@ -22,7 +22,7 @@ use Rattle.reconstructor_state.specs.State.{View, Lengths, last_of}
 use Rattle.reconstructor_plan.specs.Rules.{size_given, effect}
 use Rattle.reconstructor.specs.Refusals.{gate_refusal, turn_refusal}
 use Rattle.reconstructor.specs.Applied.{invalidation}
-use Rattle.reconstructor_bootstrap.specs.declared.SnapshotAnswer.{SnapshotAnswer}
+use Rattle.reconstructor_bootstrap.specs.declared.BootstrapError.{BootstrapError}
 use Rattle.reconstructor_bootstrap.specs.Snapshot.{snapshot_line, boot_refusal}
 use Rattle.reconstructor_handshake.specs.declared.Handshake.{Handshake}
 use Rattle.reconstructor_handshake.specs.declared.StepAnswer.{StepAnswer}
@@ -176,18 +176,18 @@ snap_view s bytes w =
       line = line_by (snapshot s.sequence (snapshot_line s bytes)) w.line;
     }
 
-abbrev pub view_boot : Option SnapshotAnswer → Result L3Snapshot PieceError → List ℕ → View → View
-view_boot (Some a) s bytes w = w
+abbrev pub view_boot : Option BootstrapError → Result L3Snapshot PieceError → List ℕ → View → View
+view_boot (Some e) s bytes w = w
 view_boot None (Err e) bytes w = w
 view_boot None (Ok s) bytes w = snap_view s bytes w
 
-abbrev pub figure_boot : Option SnapshotAnswer → Result L3Snapshot PieceError → List ℕ → Figure → Figure
-figure_boot (Some a) s bytes f = f
+abbrev pub figure_boot : Option BootstrapError → Result L3Snapshot PieceError → List ℕ → Figure → Figure
+figure_boot (Some e) s bytes f = f
 figure_boot None (Err e) bytes f = f
 figure_boot None (Ok s) bytes f = tallied (snapshot_line s bytes) nought
 
 module _ (top : ℕ) (c : Config) where
-  abbrev pub boot_outcome : Lengths → View → List ℕ → Option SnapshotAnswer
+  abbrev pub boot_outcome : Lengths → View → List ℕ → Option BootstrapError
   boot_outcome n w bytes = boot_refusal top c.product c.rules n false w bytes
 
   unfoldable pub feed_view : View → Call → View

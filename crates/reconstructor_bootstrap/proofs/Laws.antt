@@ -24,8 +24,8 @@ use Rattle.reconstructor_segments.specs.Segments.{no_segment, last_segment, rela
 use Rattle.reconstructor_segments.proofs.Last.{length-relast, relast-same}
 use Rattle.reconstructor_state.specs.State.{view_with, lengths_with, with_counts}
 use Rattle.reconstructor_checks.specs.StateChecks.{broken, book_refusal, Usable}
-use Rattle.reconstructor_bootstrap.specs.declared.SnapshotAnswer.{SnapshotAnswer}
-use Rattle.reconstructor_bootstrap.specs.declared.SnapshotAnswer.TheVariants.{Bootstrapped, Unusable, NotAPiece, AmountOutOfRange, ListFull, Rejected}
+use Rattle.reconstructor_bootstrap.specs.declared.BootstrapError.{BootstrapError}
+use Rattle.reconstructor_bootstrap.specs.declared.BootstrapError.TheVariants.{Unusable, NotAPiece, AmountOutOfRange, ListFull, Rejected}
 use Rattle.reconstructor_bootstrap.specs.Snapshot.{snapshot_line, not_positive, line_refusal, snapshot_refusal, accept_refusal, piece_refusal, boot_refusal}
 use Rattle.reconstructor_bootstrap.specs.Bootstrap.{Parts, refused_book, booted_book, closed, accepted, unless_refused, taken, put_back, bootstrapped_to, bootstrapped}
 use Rattle.reconstructor_bootstrap.specs.Places.{entry_at, entries_from}
@@ -96,7 +96,7 @@ fits bytes s b r h =
 -- ---- acceptance
 
 -- why it is turned away, lent that list
-abbrev pub refusal_of : ℕ → BookReconstructor → Memory → List Segment → List ℕ → Option SnapshotAnswer
+abbrev pub refusal_of : ℕ → BookReconstructor → Memory → List Segment → List ℕ → Option BootstrapError
 refusal_of top b mem sg bytes =
     boot_refusal top b.product_id b.rules (lengths_with mem (length sg)) (broken b mem) (view_with b mem (last_segment sg b.segments)) bytes
 
@@ -118,7 +118,7 @@ module _ (top : ℕ) (b : BookReconstructor) (mem : Memory) (sg : List Segment) 
   last = last_segment sg b.segments
 
   -- by what it is turned away for
-  settles : (o : Option SnapshotAnswer) → refusal_of top b mem sg bytes ≡ o
+  settles : (o : Option BootstrapError) → refusal_of top b mem sg bytes ≡ o
       → bootstrapped top b mem sg bytes ≡ put_back sg b.segments (unless_refused o b mem (length sg) last (taken (read_snapshot bytes) b mem (length sg) last bytes))
   unfolding bootstrapped bootstrapped_to
   settles o h = ap (λ x. put_back sg b.segments (unless_refused x b mem (length sg) last (taken (read_snapshot bytes) b mem (length sg) last bytes))) h
@@ -175,22 +175,21 @@ module _ (top : ℕ) (b : BookReconstructor) (mem : Memory) (sg : List Segment) 
 -- ---- refusal
 
 -- a refusal changes the counts at most
-pub counts_alone : (x : SnapshotAnswer) (b : BookReconstructor) → refused_book x b ≡ with_counts b (refused_book x b).counts
-counts_alone Bootstrapped b = refl
+pub counts_alone : (x : BootstrapError) (b : BookReconstructor) → refused_book x b ≡ with_counts b (refused_book x b).counts
 counts_alone (Unusable e) b = refl
 counts_alone NotAPiece b = refl
 counts_alone AmountOutOfRange b = refl
 counts_alone ListFull b = refl
 counts_alone (Rejected e) b = refl
 
-module _ (top : ℕ) (b : BookReconstructor) (mem : Memory) (sg : List Segment) (bytes : List ℕ) (x : SnapshotAnswer) (h : refusal_of top b mem sg bytes ≡ Some x) where
+module _ (top : ℕ) (b : BookReconstructor) (mem : Memory) (sg : List Segment) (bytes : List ℕ) (x : BootstrapError) (h : refusal_of top b mem sg bytes ≡ Some x) where
   -- the last record rewritten with itself, and one past the end, leave the list
   same : set (relast sg b.segments (last_segment sg b.segments)) (length sg) no_segment ≡ sg
   same = ap (λ l. set l (length sg) no_segment) (relast-same sg b.segments) ∙ set_out sg (length sg) no_segment (omega arith)
 
   -- 01, bootstrap: "leave all else; a valid book stays valid"
-  pub refused_is : bootstrapped top b mem sg bytes ≡ record { answer = x; book = refused_book x b; memory = mem; segments = sg }
-  refused_is = settles top b mem sg bytes (Some x) h ∙ ap (λ (l : List Segment). record { answer = x; book = refused_book x b; memory = mem; segments = l }) same
+  pub refused_is : bootstrapped top b mem sg bytes ≡ record { answer = Err x; book = refused_book x b; memory = mem; segments = sg }
+  refused_is = settles top b mem sg bytes (Some x) h ∙ ap (λ (l : List Segment). record { answer = Err x; book = refused_book x b; memory = mem; segments = l }) same
 
   -- a usable state stays usable
   pub refused-usable : Usable top b mem (length sg)

@@ -21,9 +21,9 @@ use Rattle.reconstructor_segments.specs.declared.Segment.{Segment}
 use Rattle.reconstructor_state.specs.State.{view_with, lengths_with}
 use Rattle.reconstructor_checks.specs.StateChecks.{Usable, book_refusal}
 use Rattle.reconstructor_bootstrap.specs.declared.SnapshotError.{SnapshotError}
-use Rattle.reconstructor_bootstrap.specs.declared.SnapshotAnswer.{SnapshotAnswer}
-use Rattle.reconstructor_bootstrap.specs.declared.SnapshotAnswer.TheVariants.{Unusable, ListFull, Rejected}
-use Rattle.reconstructor_bootstrap.specs.Snapshot.{snapshot_line, snapshot_refusal, piece_answer, accept_refusal, piece_refusal, boot_refusal}
+use Rattle.reconstructor_bootstrap.specs.declared.BootstrapError.{BootstrapError}
+use Rattle.reconstructor_bootstrap.specs.declared.BootstrapError.TheVariants.{Unusable, ListFull, Rejected}
+use Rattle.reconstructor_bootstrap.specs.Snapshot.{snapshot_line, snapshot_refusal, piece_error, accept_refusal, piece_refusal, boot_refusal}
 use Rattle.reconstructor_bootstrap.specs.Bootstrap.{Booted, booted, refused_work, accepted, unless_refused, bootstrapped_to}
 use Rattle.reconstructor_bootstrap.specs.Places.{entries_from, rows_at, Room, usable_to}
 use Rattle.book.proofs.Kept.{line-snapshot}
@@ -48,8 +48,8 @@ length-snapshot s bytes = ap length (line-places s bytes) ∙ entries-length s.b
 pub booted_path : {a b : Booted} → a.answer ≡ b.answer → a.book ≡ b.book → a.memory ≡ b.memory → a.segment ≡ b.segment → a.at ≡ b.at → a.started ≡ b.started → a ≡ b
 booted_path p q r s t u = λ k. record { answer = p k; book = q k; memory = r k; segment = s k; at = t k; started = u k }
 
-module _ {o : Option SnapshotAnswer} (b : BookReconstructor) (mem : Memory) (lent : ℕ) (g : Segment) (p : Booted) where
-  settled-some : {a : SnapshotAnswer} → o ≡ Some a → booted (refused_work a b lent g) mem ≡ unless_refused o b mem lent g p
+module _ {o : Option BootstrapError} (b : BookReconstructor) (mem : Memory) (lent : ℕ) (g : Segment) (p : Booted) where
+  settled-some : {a : BootstrapError} → o ≡ Some a → booted (refused_work a b lent g) mem ≡ unless_refused o b mem lent g p
   settled-some e = rw e
 
   settled-none : o ≡ None → p ≡ unless_refused o b mem lent g p
@@ -96,7 +96,7 @@ module _ (top : ℕ) (b : BookReconstructor) (mem : Memory) (lent : ℕ) (g : Se
   unusable e h = settled-some b mem lent g _ (first-fails _ _ _ e h)
 
   module _ (h : book_refusal top b mem lent ≡ None) where
-    pub not-read : (e : PieceError) → read_snapshot bytes ≡ Err e → booted (refused_work (piece_answer e) b lent g) mem ≡ bootstrapped_to top b mem lent g bytes
+    pub not-read : (e : PieceError) → read_snapshot bytes ≡ Err e → booted (refused_work (piece_error e) b lent g) mem ≡ bootstrapped_to top b mem lent g bytes
     unfolding bootstrapped_to boot_refusal
     not-read e q = settled-some b mem lent g _ (first_on _ _ _ _ h (ap (λ r. piece_refusal b.product_id b.rules (lengths_with mem lent) (view_with b mem g) r bytes) q))
 

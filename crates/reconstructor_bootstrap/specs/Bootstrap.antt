@@ -13,11 +13,11 @@ use Rattle.reconstructor_segments.specs.Segments.{no_segment, last_segment, rela
 use Rattle.reconstructor_state.specs.State.{with_counts, view_with, lengths_with}
 use Rattle.reconstructor_checks.specs.StateChecks.{broken}
 use Rattle.reconstructor_bootstrap.specs.declared.SnapshotError.{SnapshotError}
-use Rattle.reconstructor_bootstrap.specs.declared.SnapshotAnswer.{SnapshotAnswer}
-use Rattle.reconstructor_bootstrap.specs.declared.SnapshotAnswer.TheVariants.{Bootstrapped, Unusable, NotAPiece, AmountOutOfRange, ListFull, Rejected}
+use Rattle.reconstructor_bootstrap.specs.declared.BootstrapError.{BootstrapError}
+use Rattle.reconstructor_bootstrap.specs.declared.BootstrapError.TheVariants.{Unusable, NotAPiece, AmountOutOfRange, ListFull, Rejected}
 use Rattle.reconstructor_bootstrap.specs.declared.Reply.{Reply}
 use Rattle.reconstructor_bootstrap.specs.declared.Work.{Work}
-use Rattle.reconstructor_bootstrap.specs.Snapshot.{snapshot_line, piece_answer, boot_refusal}
+use Rattle.reconstructor_bootstrap.specs.Snapshot.{snapshot_line, piece_error, boot_refusal}
 use Rattle.message.specs.declared.L3Snapshot.{L3Snapshot}
 use Rattle.piece.specs.declared.PieceError.{PieceError}
 
@@ -25,7 +25,7 @@ use Rattle.piece.specs.declared.PieceError.{PieceError}
 
 -- of the state, the memory and the last segment's record, with the record that it starts and that one's place: past the end of the list where it starts none
 pub record Booted : Type 0 where
-  pub answer : SnapshotAnswer
+  pub answer : Result ⊤ BootstrapError
   pub book : BookReconstructor
   pub memory : Memory
   pub segment : Segment
@@ -37,7 +37,7 @@ booted w mem = record { answer = w.answer; book = w.book; memory = mem; segment 
 
 -- and of the segment list
 pub record Parts : Type 0 where
-  pub answer : SnapshotAnswer
+  pub answer : Result ⊤ BootstrapError
   pub book : BookReconstructor
   pub memory : Memory
   pub segments : List Segment
@@ -58,8 +58,7 @@ put_back sg n w =
 -- ---- refusals
 
 -- 01, bootstrap: "Refusals 10 to 14 add one to rejected_snapshots (10 included) and leave all else; a valid book stays valid."
-abbrev pub refused_book : SnapshotAnswer → BookReconstructor → BookReconstructor
-refused_book Bootstrapped b = b
+abbrev pub refused_book : BootstrapError → BookReconstructor → BookReconstructor
 refused_book (Unusable e) b = b
 refused_book NotAPiece b = b
 refused_book AmountOutOfRange b = b
@@ -67,9 +66,9 @@ refused_book ListFull b = b
 refused_book (Rejected e) b = with_counts b (counted b.counts RejectedSnapshots)
 
 -- of a call that is lent so many records
-abbrev pub refused_work : SnapshotAnswer → BookReconstructor → ℕ → Segment → Work
-refused_work a b lent g =
-    record { book = refused_book a b; answer = a; segment = g; at = lent; started = no_segment }
+abbrev pub refused_work : BootstrapError → BookReconstructor → ℕ → Segment → Work
+refused_work e b lent g =
+    record { book = refused_book e b; answer = Err e; segment = g; at = lent; started = no_segment }
 
 -- ---- acceptance
 
@@ -96,7 +95,7 @@ closed (Invalidated i) g = g
 abbrev pub accepted : BookReconstructor → Memory → Segment → ℕ → List Entry → Booted
 accepted b mem g sequence line =
     record {
-      answer = Bootstrapped;
+      answer = Ok tt;
       book = booted_book b sequence (length line);
       memory = memory_by mem b.rows (snapshot sequence line);
       segment = closed b.status g;
@@ -107,13 +106,13 @@ accepted b mem g sequence line =
 -- ---- the call
 
 -- a refusal, or else what is taken
-abbrev pub unless_refused : Option SnapshotAnswer → BookReconstructor → Memory → ℕ → Segment → Booted → Booted
-unless_refused (Some a) b mem lent g p = booted (refused_work a b lent g) mem
+abbrev pub unless_refused : Option BootstrapError → BookReconstructor → Memory → ℕ → Segment → Booted → Booted
+unless_refused (Some e) b mem lent g p = booted (refused_work e b lent g) mem
 unless_refused None b mem lent g p = p
 
 -- bytes that are no snapshot have met 4 or 5 before
 abbrev pub taken : Result L3Snapshot PieceError → BookReconstructor → Memory → ℕ → Segment → List ℕ → Booted
-taken (Err e) b mem lent g bytes = booted (refused_work (piece_answer e) b lent g) mem
+taken (Err e) b mem lent g bytes = booted (refused_work (piece_error e) b lent g) mem
 taken (Ok s) b mem lent g bytes = accepted b mem g s.sequence (snapshot_line s bytes)
 
 -- the last record being g, of a list of so many; the ceiling of the limits is an argument

@@ -18,8 +18,8 @@ use Rattle.reconstructor_state.specs.State.{View, Lengths}
 use Rattle.reconstructor_checks.specs.StateChecks.{state_refusal}
 use Rattle.reconstructor_bootstrap.specs.declared.SnapshotError.{SnapshotError}
 use Rattle.reconstructor_bootstrap.specs.declared.SnapshotError.TheVariants.{WrongProduct, DuplicateId, InvalidValue, Crossed, CapacityExceeded}
-use Rattle.reconstructor_bootstrap.specs.declared.SnapshotAnswer.{SnapshotAnswer}
-use Rattle.reconstructor_bootstrap.specs.declared.SnapshotAnswer.TheVariants.{Unusable, NotAPiece, AmountOutOfRange, ListFull, Rejected}
+use Rattle.reconstructor_bootstrap.specs.declared.BootstrapError.{BootstrapError}
+use Rattle.reconstructor_bootstrap.specs.declared.BootstrapError.TheVariants.{Unusable, NotAPiece, AmountOutOfRange, ListFull, Rejected}
 
 -- ---- the line of a snapshot
 
@@ -63,20 +63,20 @@ snapshot_refusal product v s line =
 -- ---- 1 to 14
 
 -- 4 and 5, said by the reader
-abbrev pub piece_answer : PieceError → SnapshotAnswer
-piece_answer pieces.NotAPiece = NotAPiece
-piece_answer pieces.OutOfRange = AmountOutOfRange
+abbrev pub piece_error : PieceError → BootstrapError
+piece_error pieces.NotAPiece = NotAPiece
+piece_error pieces.OutOfRange = AmountOutOfRange
 
 -- 6: "list length equals its count"; then 10 to 14
-unfoldable pub accept_refusal : ProductId → VenueRules → Lengths → View → L3Snapshot → List Entry → Option SnapshotAnswer
+unfoldable pub accept_refusal : ProductId → VenueRules → Lengths → View → L3Snapshot → List Entry → Option BootstrapError
 accept_refusal product v lent w s line =
     check (eqb lent.segments w.segments) ListFull (first (snapshot_refusal product v s line) Rejected None)
 
-abbrev pub piece_refusal : ProductId → VenueRules → Lengths → View → Result L3Snapshot PieceError → List ℕ → Option SnapshotAnswer
-piece_refusal product v lent w (Err e) bytes = Some (piece_answer e)
+abbrev pub piece_refusal : ProductId → VenueRules → Lengths → View → Result L3Snapshot PieceError → List ℕ → Option BootstrapError
+piece_refusal product v lent w (Err e) bytes = Some (piece_error e)
 piece_refusal product v lent w (Ok s) bytes = accept_refusal product v lent w s (snapshot_line s bytes)
 
 -- all of them, over a view; `three` says whether number 3 arises
-unfoldable pub boot_refusal : ℕ → ProductId → VenueRules → Lengths → Bool → View → List ℕ → Option SnapshotAnswer
+unfoldable pub boot_refusal : ℕ → ProductId → VenueRules → Lengths → Bool → View → List ℕ → Option BootstrapError
 boot_refusal top product v lent three w bytes =
     first (state_refusal top v lent three w.segments) Unusable (piece_refusal product v lent w (read_snapshot bytes) bytes)

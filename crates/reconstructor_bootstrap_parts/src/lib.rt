@@ -3,47 +3,35 @@
 
 ghost use Rattle.std.specs.Prelude.{◌≡◌, ◌<◌};
 ghost use Rattle.reconstructor_counts.specs.Counts.{largest};
-ghost use Rattle.reconstructor_bootstrap.specs.Snapshot.{piece_answer};
 ghost use Rattle.reconstructor_bootstrap.specs.Bootstrap.{refused_book, refused_work, booted_book, closed};
 
-use piece::PieceError;
-use reconstructor_bootstrap::{SnapshotAnswer, Work};
+use reconstructor_bootstrap::{BootstrapError, Work};
 use reconstructor_counts::Counter;
 use reconstructor_segments::Segment;
 use reconstructor_state::{BookReconstructor, Status};
 
-pub fn piece_answer(error: PieceError) -> SnapshotAnswer
-    ensures { result ≡ piece_answer error }
+// 10 to 14 are counted, and change nothing else.
+fn refused_book(book: BookReconstructor, error: BootstrapError) -> BookReconstructor
+    ensures { result ≡ refused_book error book }
 {
     match error {
-        PieceError::NotAPiece => SnapshotAnswer::NotAPiece,
-        PieceError::OutOfRange => SnapshotAnswer::AmountOutOfRange,
-    }
-}
-
-// 10 to 14 are counted, and change nothing else.
-fn refused_book(book: BookReconstructor, answer: SnapshotAnswer) -> BookReconstructor
-    ensures { result ≡ refused_book answer book }
-{
-    match answer {
-        SnapshotAnswer::Bootstrapped => book,
-        SnapshotAnswer::Unusable(_) => book,
-        SnapshotAnswer::NotAPiece => book,
-        SnapshotAnswer::AmountOutOfRange => book,
-        SnapshotAnswer::ListFull => book,
-        SnapshotAnswer::Rejected(_) => book.counting(Counter::RejectedSnapshots),
+        BootstrapError::Unusable(_) => book,
+        BootstrapError::NotAPiece => book,
+        BootstrapError::AmountOutOfRange => book,
+        BootstrapError::ListFull => book,
+        BootstrapError::Rejected(_) => book.counting(Counter::RejectedSnapshots),
     }
 }
 
 // A refusal, of a call that is lent a list of `lent` records: the last one stays, and none is started.
-pub fn refused(book: BookReconstructor, answer: SnapshotAnswer, lent: usize, last: Segment) -> Work
-    ensures { result ≡ refused_work answer book lent last }
+pub fn refused(book: BookReconstructor, error: BootstrapError, lent: usize, last: Segment) -> Work
+    ensures { result ≡ refused_work error book lent last }
 {
-    let book = refused_book(book, answer);
+    let book = refused_book(book, error);
     let started = Segment::none();
     Work {
         book,
-        answer,
+        answer: Err(error),
         segment: last,
         at: lent,
         started,
@@ -51,6 +39,7 @@ pub fn refused(book: BookReconstructor, answer: SnapshotAnswer, lent: usize, las
 }
 
 // Ends the last segment as superseded, if it is still open: while the book is valid.
+#[tactic(auto, unfolding(reconstructor_bootstrap::specs::Bootstrap::closed))]
 pub fn close_last(status: Status, last: Segment) -> Segment
     ensures { result ≡ closed status last }
 {

@@ -11,7 +11,7 @@ ghost use Rattle.reconstructor_bootstrap.specs.Bootstrap.{booted, accepted};
 ghost use Rattle.reconstructor_bootstrap.specs.Places.{Room, usable_to};
 
 use message::L3Snapshot;
-use reconstructor_bootstrap::{SnapshotAnswer, Work};
+use reconstructor_bootstrap::{BootstrapError, Work};
 use reconstructor_bootstrap_parts::{booted_book, close_last, refused};
 use reconstructor_segments::Segment;
 use reconstructor_snapshot::{store_rows, validate_snapshot};
@@ -37,7 +37,7 @@ fn accept(
     let started = Segment::started(snapshot.sequence);
     Work {
         book: next,
-        answer: SnapshotAnswer::Bootstrapped,
+        answer: Ok(()),
         segment,
         at: book.segments,
         started,
@@ -57,12 +57,12 @@ pub fn bootstrap_usable(
     ensures { booted result (memory rows.new) ≡ usable_to book (memory rows.old) lent last bytes.now snapshot }
 {
     if lent == book.segments {
-        return refused(book, SnapshotAnswer::ListFull, lent, last);
+        return refused(book, BootstrapError::ListFull, lent, last);
     }
     let product = book.product_id;
     let rules = book.rules;
     match validate_snapshot(product, rules, bytes, snapshot) {
         Ok(()) => accept(book, rows, last, bytes, snapshot),
-        Err(error) => refused(book, SnapshotAnswer::Rejected(error), lent, last),
+        Err(error) => refused(book, BootstrapError::Rejected(error), lent, last),
     }
 }

@@ -8,8 +8,8 @@ ghost use Rattle.book.specs.Memory.{memory};
 ghost use Rattle.reconstructor_state.specs.State.{ceiling};
 ghost use Rattle.reconstructor_bootstrap.specs.Bootstrap.{booted, bootstrapped_to};
 
-use reconstructor_bootstrap::{SnapshotAnswer, Work};
-use reconstructor_bootstrap_parts::{piece_answer, refused};
+use reconstructor_bootstrap::{BootstrapError, Work};
+use reconstructor_bootstrap_parts::refused;
 use reconstructor_bootstrap_usable::bootstrap_usable;
 use reconstructor_segments::Segment;
 use reconstructor_state::{BookReconstructor, VenueRules};
@@ -28,11 +28,11 @@ pub fn bootstrap_under(
 {
     let checked = reconstructor_checks::own_checks(top, book, rows, lent);
     if let Err(why) = checked {
-        return refused(book, SnapshotAnswer::Unusable(why), lent, last);
+        return refused(book, BootstrapError::Unusable(why), lent, last);
     }
     match piece_snapshots::read_snapshot(bytes) {
         Ok(snapshot) => { bootstrap_usable(book, rows, lent, last, bytes, snapshot) }
-        Err(error) => refused(book, piece_answer(error), lent, last),
+        Err(error) => refused(book, BootstrapError::from(error), lent, last),
     }
 }
 

@@ -1,5 +1,5 @@
 -- The examples of 01's table that a snapshot can meet, computed from bytes on.
-use Rattle.std.specs.Prelude.{ℕ, ◌≡◌, List, [], ◌∷◌, ◌++◌, pos, negsuc, replicate, take, set}
+use Rattle.std.specs.Prelude.{ℕ, ◌≡◌, List, [], ◌∷◌, ◌++◌, pos, negsuc, replicate, take, set, Ok, Err}
 use Rattle.message.specs.declared.SnapshotOrder.{SnapshotOrder}
 use Rattle.book.specs.Memory.{memory}
 use Rattle.reconstructor_segments.specs.declared.Segment.{Segment}
@@ -8,7 +8,7 @@ use Rattle.reconstructor_counts.specs.Counts.{no_counts, counted}
 use Rattle.reconstructor_counts.specs.declared.Counter.TheVariants.{RejectedSnapshots}
 use Rattle.reconstructor_state.specs.State.{ceiling, limited_rules, with_counts}
 use Rattle.reconstructor_bootstrap.specs.declared.SnapshotError.TheVariants.{Crossed}
-use Rattle.reconstructor_bootstrap.specs.declared.SnapshotAnswer.TheVariants.{Bootstrapped, Rejected}
+use Rattle.reconstructor_bootstrap.specs.declared.BootstrapError.TheVariants.{Rejected}
 use Rattle.reconstructor_bootstrap.specs.Numbers.{snapshot_told}
 use Rattle.reconstructor_bootstrap.specs.Bootstrap.{Parts, bootstrapped}
 use Rattle.stars.specs.E.{product_p, product_q, order, order_a, order_b, piece, fresh, segment, any_rows, any_record, snapshot_at, book_e, rows_e, memory_e, segments_e}
@@ -31,18 +31,18 @@ number_fresh orders levels bids asks =
 
 pub record Examples : Type 0 where
   -- E is what its snapshot makes of a fresh book
-  pub made : snapshot_at 100 ≡ record { answer = Bootstrapped; book = book_e; memory = memory_e; segments = segments_e }
+  pub made : snapshot_at 100 ≡ record { answer = Ok tt; book = book_e; memory = memory_e; segments = segments_e }
   -- a second one supersedes its segment and zeroes the row that it no longer needs
   pub again : on_e segments_e (piece product_p 90 [] (order_a ∷ []))
       ≡ record {
-        answer = Bootstrapped;
+        answer = Ok tt;
         book = record { product_id = product_p; rules = limited_rules 3 3; number = 1; status = Valid 90; rows = 1; segments = 2; counts = no_counts };
         memory = memory (0 ∷ 1 ∷ 10 ∷ 2 ∷ 1 ∷ 90 ∷ 0 ∷ 0 ∷ replicate 8 0 ++ replicate 9 7);
         segments = segment 100 100 1 0 0 0 0 0 ∷ segment 90 90 0 0 0 0 0 0 ∷ [];
       }
   -- 13*: a refused one ends no good segment
   pub kept : on_e segments_e (piece product_p 101 (order 1 (pos 5) (pos 1) ∷ []) (order 2 (pos 5) (pos 1) ∷ []))
-      ≡ record { answer = Rejected Crossed; book = with_counts book_e (counted no_counts RejectedSnapshots); memory = memory_e; segments = segments_e }
+      ≡ record { answer = Err (Rejected Crossed); book = with_counts book_e (counted no_counts RejectedSnapshots); memory = memory_e; segments = segments_e }
   -- 1, 2, 3, 4, 5, 6, 10, 11, 12, 14: the table's examples
   pub numbers : (
       number_fresh 4097 3 (order_a ∷ []) (order_b ∷ []) ∷

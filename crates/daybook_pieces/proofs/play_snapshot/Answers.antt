@@ -28,4 +28,4 @@ pub returns-in-Ok : goal.returns-in-Ok
 returns-in-Ok c =
     let a = c.args in
     let few = c.requires.index.few in
-    rw c.number-in-Ok.ensures record { played = snapshot-played a.book a.rows.now _ a.last a.bytes.now _ c.bootstrap_usable-work.result c.requires.usable (sym c.read_snapshot.ensures.value ∙ c.in-Ok.is) c.bootstrap_usable-work.ensures; plays = snapshot-plays a.book a.rows.now _ a.last a.bytes.now _ c.bootstrap_usable-work.result c.requires.usable (sym c.read_snapshot.ensures.value ∙ c.in-Ok.is) c.bootstrap_usable-work.ensures _ _ (omega (arith, c.index_after-bounds.auto.places)) c.index_after-bounds.ensures }
+    rw c.snapshot_number.ensures record { played = snapshot-played a.book a.rows.now _ a.last a.bytes.now _ c.bootstrap_usable-work.result c.requires.usable (sym c.read_snapshot.ensures.value ∙ c.in-Ok.is) c.bootstrap_usable-work.ensures; plays = snapshot-plays a.book a.rows.now _ a.last a.bytes.now _ c.bootstrap_usable-work.result c.requires.usable (sym c.read_snapshot.ensures.value ∙ c.in-Ok.is) c.bootstrap_usable-work.ensures _ _ (omega (arith, c.index_after-bounds.auto.places)) c.index_after-bounds.ensures }

@@ -27,5 +27,5 @@ pub returns : goal.returns
 unfolding bootstrap_call
 returns c =
     goes_on _ _ (λ (n : ℕ). called n c.args.state.now c.args.rows.now c.args.segments.now) _ _ (c.boundary-stop.ensures ∙ ap (λ (x : Bool). boundary c.args.state.now (extent_of (memory c.args.rows.now)) x false false) c.list_short-less.ensures) c.if-stop-ne0.false
-    (rw (c.store_book.ensures, c.number-number.ensures, ← c.load_book-book.ensures)
+    (rw (c.store_book.ensures, c.snapshot_number-number.ensures, ← c.load_book-book.ensures)
     (boot-leaves ceiling c.args.state.now c.args.rows.now c.args.segments.now c.load_book-book.result c.last_record-last.result c.last_record-last.ensures c.args.bytes.now c.bootstrap_by_value-work.result _ _ _ c.bootstrap_by_value-work.ensures c.rewrite_record.ensures c.put_record.ensures))

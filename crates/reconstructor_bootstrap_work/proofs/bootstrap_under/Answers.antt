@@ -28,5 +28,5 @@ returns-in-Ok c =
 pub returns-in-Err-read_snapshot : goal.returns-in-Err-read_snapshot
 returns-in-Err-read_snapshot c =
     let a = c.args in
-    ap (λ w. booted w (memory a.rows.now)) (c.refused-in-Err-read_snapshot.ensures ∙ ap (λ x. refused_work x a.book a.lent a.last) c.piece_answer.ensures)
+    ap (λ w. booted w (memory a.rows.now)) (c.refused-in-Err-read_snapshot.ensures ∙ ap (λ x. refused_work x a.book a.lent a.last) c.from.ensures)
     ∙ not-read a.top a.book (memory a.rows.now) a.lent a.last a.bytes.now (said-none (book_refusal a.top a.book (memory a.rows.now) a.lent) c.own_checks-checked.result c.own_checks-checked.ensures c.in_default.is) _ (sym c.read_snapshot.ensures.value ∙ c.in-Err-read_snapshot.is)
