@@ -20,7 +20,7 @@ use Rattle.book.specs.Memory.{Memory, memory, orders_of, line_in}
 use Rattle.book_index.specs.declared.Bounds.{Bounds}
 use Rattle.book_index.specs.Index.{Indexed}
 use Rattle.reconstructor_answers.specs.Numbers.{answer_number}
-use Rattle.reconstructor_answers.specs.declared.ApplyAnswer.{ApplyAnswer}
+use Rattle.reconstructor_answers.specs.declared.ApplyError.{ApplyError}
 use Rattle.reconstructor_answers.specs.declared.InvalidationKind.{InvalidationKind}
 use Rattle.reconstructor_segments.specs.declared.Segment.{Segment}
 use Rattle.reconstructor_segments.specs.Segments.{no_segment, last_segment, relast}
@@ -73,7 +73,7 @@ module _ (b : BookReconstructor) (mem : Memory) (g : Segment) (m : L3Message) (u
   decided-segments last (Some k) = refl
   decided-segments last None = refl
 
-  gate-starts : (o : Option ApplyAnswer) → admit_refusal b.product_id b.status m ≡ o → Starts b g (by_apply_to (after_gate b mem g m o))
+  gate-starts : (o : Option ApplyError) → admit_refusal b.product_id b.status m ≡ o → Starts b g (by_apply_to (after_gate b mem g m o))
   unfolding after_gate refused_reply
   gate-starts (Some a) h = stays refl (ap (λ (x : BookReconstructor). x.segments) (refusal-counts b a)) (λ z. refl)
   gate-starts None h =

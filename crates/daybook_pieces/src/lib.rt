@@ -16,6 +16,7 @@ use book_index_upkeep::{bounds_of, mark_rows};
 use daybook_segments::DAY_SEGMENTS;
 use piece_messages::read_message;
 use piece_snapshots::read_snapshot;
+use reconstructor_answers::answer_number;
 use reconstructor_apply_run::apply_in_run;
 use reconstructor_bootstrap::snapshot_number;
 use reconstructor_bootstrap_usable::bootstrap_usable;
@@ -129,7 +130,7 @@ fn play_message(
             let after = work.book;
             let segment = work.segment;
             let bounds = run.bounds;
-            unstarted(answer.number(), after, segment, bounds)
+            unstarted(answer_number(answer), after, segment, bounds)
         }
     }
 }

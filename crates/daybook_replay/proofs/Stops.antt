@@ -18,10 +18,10 @@ use Rattle.piece.specs.Piece.{piece_number, read_message, read_snapshot}
 use Rattle.book.specs.Memory.{Memory, line_in}
 use Rattle.reconstructor_answers.specs.declared.Applied.{Applied}
 use Rattle.reconstructor_answers.specs.declared.Applied.TheVariants.{BookChanged, NoBookEffect}
-use Rattle.reconstructor_answers.specs.declared.ApplyAnswer.{ApplyAnswer}
-use Rattle.reconstructor_answers.specs.declared.ApplyAnswer.TheVariants as answers
+use Rattle.reconstructor_answers.specs.declared.ApplyError.{ApplyError}
+use Rattle.reconstructor_answers.specs.declared.ApplyError.TheVariants as refusals
 use Rattle.reconstructor_answers.specs.declared.InvalidationKind.{InvalidationKind}
-use Rattle.reconstructor_answers.specs.Numbers.{answer_number}
+use Rattle.reconstructor_answers.specs.Numbers.{applied_number, apply_error_number, answer_number}
 use Rattle.reconstructor_segments.specs.declared.Segment.{Segment}
 use Rattle.reconstructor_segments.specs.Segments.{last_segment, relast}
 use Rattle.reconstructor_segments.proofs.Last.{length-relast}
@@ -114,16 +114,16 @@ module _ (b : BookReconstructor) (mem : Memory) (g : Segment) (bytes : List ℕ)
 
 -- ---- a message
 
-abbrev AnswersPass : Option ApplyAnswer → Type 0
+abbrev AnswersPass : Option ApplyError → Type 0
 AnswersPass None = Unit {0}
-AnswersPass (Some a) = Passes (answer_number a)
+AnswersPass (Some a) = Passes (apply_error_number a)
 
 status-passes : (s : Status) → AnswersPass (status_refusal s)
 status-passes states.Empty = λ h. absurd_bool h
 status-passes (states.Valid last) = tt
 status-passes (states.Invalidated i) = λ h. absurd_bool h
 
-applied-passes : (a : Applied) → Passes (answer_number (answers.Applied a))
+applied-passes : (a : Applied) → Passes (applied_number a)
 applied-passes BookChanged h = absurd_bool h
 applied-passes NoBookEffect h = absurd_bool h
 
@@ -132,7 +132,7 @@ module _ (b : BookReconstructor) (mem : Memory) (g : Segment) (m : L3Message) wh
   unfolding admit_refusal check
   admit-passes = go (not (event_in_range m.event)) (not (same_product m.product_id b.product_id))
     where
-      go : (x y : Bool) → AnswersPass (check x answers.AmountOutOfRange (check y answers.WrongProduct (status_refusal b.status)))
+      go : (x y : Bool) → AnswersPass (check x refusals.AmountOutOfRange (check y refusals.WrongProduct (status_refusal b.status)))
       go true y = λ h. inr (inl refl)
       go false true = λ h. absurd_bool h
       go false false = status-passes b.status
@@ -142,7 +142,7 @@ module _ (b : BookReconstructor) (mem : Memory) (g : Segment) (m : L3Message) wh
   turn-passes last (Some k) = λ h. absurd_bool h
   turn-passes last None = applied-passes (answer_by (event_deed b.rules (line_in mem b.rows) m.sequence m.event).effect)
 
-  gate-passes : (o : Option ApplyAnswer) → AnswersPass o → Passes (answer_number (after_gate b mem g m o).answer)
+  gate-passes : (o : Option ApplyError) → AnswersPass o → Passes (answer_number (after_gate b mem g m o).answer)
   unfolding after_gate refused_reply
   gate-passes (Some a) p = p
   gate-passes None p = turn-passes (last_of b.status) (turn_refusal b.rules (line_in mem b.rows) (last_of b.status) m)

@@ -11,6 +11,7 @@ use host_records::{RECORD_WORDS, last_record};
 use host_records_store::rewrite_record;
 use host_words::load_book;
 use host_words_store::{sets_status, store_book};
+use reconstructor_answers::answer_number;
 
 pub fn apply(state: &mut [u64], rows: &mut [u64], segments: &mut [u64], message: &[u64]) -> u64
     ensures { called result state.new rows.new segments.new ≡ apply_call state.old rows.old segments.old message.now }
@@ -27,5 +28,5 @@ pub fn apply(state: &mut [u64], rows: &mut [u64], segments: &mut [u64], message:
     rewrite_record(segments, count, work.segment);
     let answer = work.answer;
     store_book(state, work.book, sets_status(answer));
-    answer.number()
+    answer_number(answer)
 }

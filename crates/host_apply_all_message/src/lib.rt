@@ -14,6 +14,7 @@ use host_records::last_record;
 use host_records_store::rewrite_record;
 use host_words::load_book;
 use host_words_store::{sets_status, store_book};
+use reconstructor_answers::answer_number;
 use reconstructor_apply_run::apply_in_run;
 
 // What a message of the run leaves beside the lent words: its number, and the bounds of the rows.
@@ -49,7 +50,7 @@ fn apply_message(
     store_book(state, work.book, sets_status(answer));
     let bounds = run.bounds;
     RunApplied {
-        number: answer.number(),
+        number: answer_number(answer),
         bounds,
     }
 }

@@ -17,8 +17,8 @@ use Rattle.reconstructor_answers.specs.declared.Applied.{Applied}
 use Rattle.reconstructor_answers.specs.declared.Applied.TheVariants.{BookChanged, NoBookEffect}
 use Rattle.reconstructor_answers.specs.declared.InvalidationKind.{InvalidationKind}
 use Rattle.reconstructor_answers.specs.declared.StateError.TheVariants.{LimitAboveCeiling, LentTooShort, MalformedBook}
-use Rattle.reconstructor_answers.specs.declared.ApplyAnswer.{ApplyAnswer}
-use Rattle.reconstructor_answers.specs.declared.ApplyAnswer.TheVariants as answers
+use Rattle.reconstructor_answers.specs.declared.ApplyError.{ApplyError}
+use Rattle.reconstructor_answers.specs.declared.ApplyError.TheVariants as refusals
 use Rattle.reconstructor_state.specs.declared.BookReconstructor.{BookReconstructor}
 use Rattle.reconstructor_segments.specs.declared.Segment.{Segment}
 use Rattle.reconstructor_segments.specs.Segments.{no_segment, last_segment, relast}
@@ -34,7 +34,7 @@ use Rattle.reconstructor_bootstrap.specs.Numbers.{bootstrap_error_number}
 use Rattle.reconstructor_bootstrap.specs.Snapshot.{piece_error}
 use Rattle.reconstructor_bootstrap.specs.Bootstrap as boot
 use Rattle.host_records.specs.Records.{records_in, records_of, relaid}
-use Rattle.reconstructor_answers.specs.Numbers.{answer_number}
+use Rattle.reconstructor_answers.specs.Numbers.{applied_number, apply_error_number, answer_number}
 use Rattle.host_words.specs.Block.{state_words, book_of, message_of, restored, raised, sets_status}
 use Rattle.host_word_tests.specs.WordTests.{no_book}
 use Rattle.host_message_tests.specs.MessageTests.{no_message}
@@ -53,18 +53,16 @@ use Rattle.piece.specs.declared.PieceError.{PieceError}
 
 -- ---- `pinuglaw_apply`
 
-refused-words : (st : List ℕ) (a : ApplyAnswer) → state_words ≤ length st → acts (answer_number a) ≡ false
-    → restored st (sets_status a) (refused_book (book_of st) a) ≡ refused_state (answer_number a) st
-refused-words st (answers.Applied BookChanged) long h = absurd_bool h
-refused-words st (answers.Applied NoBookEffect) long h = absurd_bool h
-refused-words st (answers.Unusable LimitAboveCeiling) long h = block_same st long
-refused-words st (answers.Unusable LentTooShort) long h = block_same st long
-refused-words st (answers.Unusable MalformedBook) long h = block_same st long
-refused-words st answers.AmountOutOfRange long h = block_same st long
-refused-words st answers.WrongProduct long h = raised-product st long
-refused-words st answers.NotBootstrapped long h = block_same st long
-refused-words st (answers.Invalidated i) long h = absurd_bool h
-refused-words st (answers.AwaitingSnapshot i) long h = raised-skipped st long
+refused-words : (st : List ℕ) (a : ApplyError) → state_words ≤ length st → acts (apply_error_number a) ≡ false
+    → restored st (sets_status (Err a)) (refused_book (book_of st) a) ≡ refused_state (apply_error_number a) st
+refused-words st (refusals.Unusable LimitAboveCeiling) long h = block_same st long
+refused-words st (refusals.Unusable LentTooShort) long h = block_same st long
+refused-words st (refusals.Unusable MalformedBook) long h = block_same st long
+refused-words st refusals.AmountOutOfRange long h = block_same st long
+refused-words st refusals.WrongProduct long h = raised-product st long
+refused-words st refusals.NotBootstrapped long h = block_same st long
+refused-words st (refusals.Invalidated i) long h = absurd_bool h
+refused-words st (refusals.AwaitingSnapshot i) long h = raised-skipped st long
 
 -- a message whose turn it is is applied, or answers 16
 decided-acts : (b : BookReconstructor) (mem : Memory) (last : ℕ) (m : L3Message) (o : Option InvalidationKind) → acts (answer_number (decided b mem last m o).answer) ≡ true
@@ -72,7 +70,7 @@ unfolding decided invalidated_reply accepted accepted_reply
 decided-acts b mem last m (Some k) = refl
 decided-acts b mem last m None = go (answer_by (event_deed b.rules (line_in mem b.rows) m.sequence m.event).effect)
   where
-    go : (a : Applied) → acts (answer_number (answers.Applied a)) ≡ true
+    go : (a : Applied) → acts (applied_number a) ≡ true
     go BookChanged = refl
     go NoBookEffect = refl
 
@@ -94,19 +92,19 @@ module _ (st ws sg : List ℕ) (m : L3Message) (long : state_words ≤ length st
   abbrev turn : Option InvalidationKind
   turn = turn_refusal (book_of st).rules (line_in (memory ws) (book_of st).rows) (last_of (book_of st).status) m
 
-  abbrev gated : Option ApplyAnswer → BookCall
+  abbrev gated : Option ApplyError → BookCall
   gated o = after_apply st sg (put_back (records_of sg) (book_of st).segments (after_gate (book_of st) (memory ws) last m o))
 
-  gated-words : (o : Option ApplyAnswer) → acts (gated o).number ≡ false → gated o ≡ refusal_leaves (gated o).number st ws sg
+  gated-words : (o : Option ApplyError) → acts (gated o).number ≡ false → gated o ≡ refusal_leaves (gated o).number st ws sg
   unfolding after_gate refused_reply
-  gated-words (Some a) h = ap₂ (λ (l t : List ℕ). called (answer_number a) l ws t) (refused-words st a long h) (relaid-last sg (book_of st).segments)
+  gated-words (Some a) h = ap₂ (λ (l t : List ℕ). called (apply_error_number a) l ws t) (refused-words st a long h) (relaid-last sg (book_of st).segments)
   gated-words None h = absurd_bool (sym (decided-acts (book_of st) (memory ws) (last_of (book_of st).status) m turn) ∙ h)
 
-  gated-state : (o : Option ApplyAnswer) → book_of (gated o).state ≡ (after_gate (book_of st) (memory ws) last m o).book
+  gated-state : (o : Option ApplyError) → book_of (gated o).state ≡ (after_gate (book_of st) (memory ws) last m o).book
   unfolding after_gate refused_reply
   gated-state (Some a) =
       let b = book_of st in
-      rw (refusal-counts b a) (block_back st (sets_status a) b.status b.rows b.segments (refused_book b a).counts long (λ e. refl))
+      rw (refusal-counts b a) (block_back st (sets_status (Err a)) b.status b.rows b.segments (refused_book b a).counts long (λ e. refl))
   gated-state None = decided-state st (memory ws) (last_of (book_of st).status) m turn long
 
   module _ (top : ℕ) where

@@ -1,7 +1,7 @@
 -- What an exported step leaves: a refusal leaves every lent word but the count that 10 and 17 raise and, at 17, the end of the handshake; a drop raises one
 -- count; and the words afterwards are the state and the handshake that the rules leave.
 -- Assumes nothing.
-use Rattle.std.specs.Prelude.{Option, Some, None}
+use Rattle.std.specs.Prelude.{Option, Some, None, Result, Ok, Err}
 use Prim.Native.Nat.{ℕ, ◌≤◌}
 use mathlib.Core.Path.{◌≡◌, refl, sym, ap, ◌∙◌}
 use mathlib.Core.Bool.{Bool, true, false, not, cond, ◌||◌}
@@ -14,8 +14,9 @@ use Rattle.book.specs.Memory.{memory, extent_of}
 use Rattle.reconstructor_answers.specs.declared.Applied.TheVariants.{BookChanged, NoBookEffect}
 use Rattle.reconstructor_answers.specs.declared.StateError.{StateError}
 use Rattle.reconstructor_answers.specs.declared.StateError.TheVariants.{LimitAboveCeiling, LentTooShort, MalformedBook}
-use Rattle.reconstructor_answers.specs.declared.ApplyAnswer.{ApplyAnswer}
-use Rattle.reconstructor_answers.specs.declared.ApplyAnswer.TheVariants as answers
+use Rattle.reconstructor_answers.specs.declared.Applied.{Applied}
+use Rattle.reconstructor_answers.specs.declared.ApplyError.{ApplyError}
+use Rattle.reconstructor_answers.specs.declared.ApplyError.TheVariants as refusals
 use Rattle.reconstructor_counts.specs.declared.Counter.TheVariants.{HandshakeDropped}
 use Rattle.reconstructor_counts.specs.Counts.{counted as counted_in}
 use Rattle.reconstructor_segments.specs.declared.Segment.{Segment}
@@ -45,30 +46,30 @@ use Rattle.host_words.proofs.Lent.{lent_two}
 use Rattle.host_calls.specs.Refused.{acts, refused_state, step_acts, refused_handshake, step_refusal_leaves}
 use Rattle.host_calls.proofs.Blocks.{relaid-last, applied-words, less, applied-state}
 
-after-words : (hs : List ℕ) (a : ApplyAnswer) → 4 ≤ length hs → no_handshake hs ≡ false → acts (answer_number a) ≡ false → handshake_left hs (after (handshake_of hs) a) ≡ refused_handshake (answer_number a) hs
-after-words hs (answers.Applied BookChanged) long bit h = absurd_bool h
-after-words hs (answers.Applied NoBookEffect) long bit h = absurd_bool h
-after-words hs (answers.Unusable LimitAboveCeiling) long bit h = handshake-same hs long bit
-after-words hs (answers.Unusable LentTooShort) long bit h = handshake-same hs long bit
-after-words hs (answers.Unusable MalformedBook) long bit h = handshake-same hs long bit
-after-words hs answers.AmountOutOfRange long bit h = handshake-same hs long bit
-after-words hs answers.WrongProduct long bit h = handshake-same hs long bit
-after-words hs answers.NotBootstrapped long bit h = handshake-same hs long bit
-after-words hs (answers.Invalidated i) long bit h = absurd_bool h
-after-words hs (answers.AwaitingSnapshot i) long bit h = refl
+after-words : (hs : List ℕ) (a : Result Applied ApplyError) → 4 ≤ length hs → no_handshake hs ≡ false → acts (answer_number a) ≡ false → handshake_left hs (after (handshake_of hs) a) ≡ refused_handshake (answer_number a) hs
+after-words hs (Ok BookChanged) long bit h = absurd_bool h
+after-words hs (Ok NoBookEffect) long bit h = absurd_bool h
+after-words hs (Err (refusals.Unusable LimitAboveCeiling)) long bit h = handshake-same hs long bit
+after-words hs (Err (refusals.Unusable LentTooShort)) long bit h = handshake-same hs long bit
+after-words hs (Err (refusals.Unusable MalformedBook)) long bit h = handshake-same hs long bit
+after-words hs (Err refusals.AmountOutOfRange) long bit h = handshake-same hs long bit
+after-words hs (Err refusals.WrongProduct) long bit h = handshake-same hs long bit
+after-words hs (Err refusals.NotBootstrapped) long bit h = handshake-same hs long bit
+after-words hs (Err (refusals.Invalidated i)) long bit h = absurd_bool h
+after-words hs (Err (refusals.AwaitingSnapshot i)) long bit h = refl
 
 -- no answer of `apply` has a drop's number
-not-dropped : (a : ApplyAnswer) → eqb (answer_number a) 512 ≡ false
-not-dropped (answers.Applied BookChanged) = refl
-not-dropped (answers.Applied NoBookEffect) = refl
-not-dropped (answers.Unusable LimitAboveCeiling) = refl
-not-dropped (answers.Unusable LentTooShort) = refl
-not-dropped (answers.Unusable MalformedBook) = refl
-not-dropped answers.AmountOutOfRange = refl
-not-dropped answers.WrongProduct = refl
-not-dropped answers.NotBootstrapped = refl
-not-dropped (answers.Invalidated i) = refl
-not-dropped (answers.AwaitingSnapshot i) = refl
+not-dropped : (a : Result Applied ApplyError) → eqb (answer_number a) 512 ≡ false
+not-dropped (Ok BookChanged) = refl
+not-dropped (Ok NoBookEffect) = refl
+not-dropped (Err (refusals.Unusable LimitAboveCeiling)) = refl
+not-dropped (Err (refusals.Unusable LentTooShort)) = refl
+not-dropped (Err (refusals.Unusable MalformedBook)) = refl
+not-dropped (Err refusals.AmountOutOfRange) = refl
+not-dropped (Err refusals.WrongProduct) = refl
+not-dropped (Err refusals.NotBootstrapped) = refl
+not-dropped (Err (refusals.Invalidated i)) = refl
+not-dropped (Err (refusals.AwaitingSnapshot i)) = refl
 
 -- a step on words that are long enough, by what refuses it and whether it drops
 module _ (top : ℕ) (st ws sg hs : List ℕ) (m : L3Message) (long : state_words ≤ length st) (full : 4 ≤ length hs) (bit : no_handshake hs ≡ false) where
@@ -76,7 +77,7 @@ module _ (top : ℕ) (st ws sg hs : List ℕ) (m : L3Message) (long : state_word
   last = last_segment (records_of sg) (book_of st).segments
 
   abbrev gate : Option StateError → Bool → Bool → Option StepAnswer
-  gate o x y = first o (λ (e : StateError). Stepped (answers.Unusable e)) (check x OtherSegment (check y (Stepped answers.AmountOutOfRange) None))
+  gate o x y = first o (λ (e : StateError). Stepped (Err (refusals.Unusable e))) (check x OtherSegment (check y (Stepped (Err refusals.AmountOutOfRange)) None))
 
   abbrev worked : Option StepAnswer → Bool → StepWorked
   worked o d =

@@ -1,6 +1,6 @@
 -- A state and a message from words, and a state as words. Any words are read as some state and some message; a kind, side, reason, presence, status or number that none has is
 -- turned away before (crate `host_boundary`).
-use Rattle.std.specs.Prelude.{ℕ, ◌%◌, List, [], ◌∷◌, ◌++◌, Bool, true, false, cond, eqb, get_or, set, take, drop, Option, Some, None, ℤ}
+use Rattle.std.specs.Prelude.{ℕ, ◌%◌, List, [], ◌∷◌, ◌++◌, Bool, true, false, cond, eqb, get_or, set, take, drop, Option, Some, None, ℤ, Result, Ok, Err}
 use Rattle.std.specs.Int.{w64}
 use Rattle.std.proofs.Common.{to_z}
 use Rattle.message.specs.declared.OrderId.{OrderId}
@@ -22,8 +22,9 @@ use Rattle.reconstructor_state.specs.declared.Status.TheVariants.{Empty, Valid, 
 use Rattle.reconstructor_counts.specs.declared.MessageCounts.{MessageCounts}
 use Rattle.reconstructor_counts.specs.Counts.{saturated}
 use Rattle.reconstructor_state.specs.declared.BookReconstructor.{BookReconstructor}
-use Rattle.reconstructor_answers.specs.declared.ApplyAnswer.{ApplyAnswer}
-use Rattle.reconstructor_answers.specs.declared.ApplyAnswer.TheVariants as answers
+use Rattle.reconstructor_answers.specs.declared.Applied.{Applied}
+use Rattle.reconstructor_answers.specs.declared.ApplyError.{ApplyError}
+use Rattle.reconstructor_answers.specs.declared.ApplyError.TheVariants as refusals
 use Rattle.reconstructor_answers.specs.Numbers.{kind_number, kind_first, kind_second, kind_detail}
 use Rattle.host_words.specs.declared.KindWords.{KindWords}
 use Rattle.host_words.specs.declared.StatusWords.{StatusWords}
@@ -228,11 +229,11 @@ raised st i = set st i (saturated (get_or st i 0))
 -- ---- An answer
 
 -- 01: "Acceptance sets last sequence", "Results 20 to 44 invalidate"; any other answer leaves the status
-abbrev pub sets_status : ApplyAnswer → Bool
-sets_status (answers.Applied a) = true
-sets_status (answers.Unusable e) = false
-sets_status answers.AmountOutOfRange = false
-sets_status answers.WrongProduct = false
-sets_status answers.NotBootstrapped = false
-sets_status (answers.Invalidated i) = true
-sets_status (answers.AwaitingSnapshot i) = false
+abbrev pub sets_status : Result Applied ApplyError → Bool
+sets_status (Ok a) = true
+sets_status (Err (refusals.Unusable e)) = false
+sets_status (Err refusals.AmountOutOfRange) = false
+sets_status (Err refusals.WrongProduct) = false
+sets_status (Err refusals.NotBootstrapped) = false
+sets_status (Err (refusals.Invalidated i)) = true
+sets_status (Err (refusals.AwaitingSnapshot i)) = false

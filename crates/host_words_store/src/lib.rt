@@ -6,7 +6,7 @@ ghost use Rattle.host_words.specs.Block.{state_words, status_after, rest_list, r
 
 use host_words::status_words;
 use laws::put;
-use reconstructor_answers::ApplyAnswer;
+use reconstructor_answers::{Applied, ApplyError};
 use reconstructor_state::{BookReconstructor, Status};
 
 // Writes words 6 to 12 where the call sets the status: a refusal leaves them, even where a status can be written in other words.
@@ -73,16 +73,16 @@ pub fn store_book(words: &mut [u64], book: BookReconstructor, sets: bool)
 }
 
 // Whether `apply` sets the status with this answer.
-pub fn sets_status(answer: ApplyAnswer) -> bool
+pub fn sets_status(answer: Result<Applied, ApplyError>) -> bool
     ensures { result ≡ sets_status answer }
 {
     match answer {
-        ApplyAnswer::Applied(_) => true,
-        ApplyAnswer::Unusable(_) => false,
-        ApplyAnswer::AmountOutOfRange => false,
-        ApplyAnswer::WrongProduct => false,
-        ApplyAnswer::NotBootstrapped => false,
-        ApplyAnswer::Invalidated(_) => true,
-        ApplyAnswer::AwaitingSnapshot(_) => false,
+        Ok(_) => true,
+        Err(ApplyError::Unusable(_)) => false,
+        Err(ApplyError::AmountOutOfRange) => false,
+        Err(ApplyError::WrongProduct) => false,
+        Err(ApplyError::NotBootstrapped) => false,
+        Err(ApplyError::Invalidated(_)) => true,
+        Err(ApplyError::AwaitingSnapshot(_)) => false,
     }
 }

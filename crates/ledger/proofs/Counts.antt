@@ -12,8 +12,8 @@ use lib.ListN.{length}
 use Rattle.message.specs.declared.L3Message.{L3Message}
 use Rattle.message.specs.Values.{event_in_range}
 use Rattle.book.specs.Memory.{Memory, Extent, extent_of, line_in}
-use Rattle.reconstructor_answers.specs.declared.ApplyAnswer.{ApplyAnswer}
-use Rattle.reconstructor_answers.specs.declared.ApplyAnswer.TheVariants as answers
+use Rattle.reconstructor_answers.specs.declared.ApplyError.{ApplyError}
+use Rattle.reconstructor_answers.specs.declared.ApplyError.TheVariants as refusals
 use Rattle.reconstructor_answers.specs.declared.InvalidationKind.{InvalidationKind}
 use Rattle.reconstructor_counts.specs.declared.MessageCounts.{MessageCounts}
 use Rattle.reconstructor_counts.specs.declared.Counter.{Counter}
@@ -103,15 +103,14 @@ counted_up a (Some p) k e = ap (λ (z : MessageCounts). counted z p) e ∙ count
 
 -- ---- a call by value, lent enough
 
-refused-counted : (b : BookReconstructor) (mem : Memory) (g : Segment) (m : L3Message) (a : ApplyAnswer) → (after_gate b mem g m (Some a)).book.counts ≡ counted_by (answer_place a) b.counts
+refused-counted : (b : BookReconstructor) (mem : Memory) (g : Segment) (m : L3Message) (a : ApplyError) → (after_gate b mem g m (Some a)).book.counts ≡ counted_by (answer_place a) b.counts
 unfolding after_gate refused_reply
-refused-counted b mem g m (answers.Applied a) = refl
-refused-counted b mem g m (answers.Unusable e) = refl
-refused-counted b mem g m answers.AmountOutOfRange = refl
-refused-counted b mem g m answers.WrongProduct = refl
-refused-counted b mem g m answers.NotBootstrapped = refl
-refused-counted b mem g m (answers.Invalidated i) = refl
-refused-counted b mem g m (answers.AwaitingSnapshot i) = refl
+refused-counted b mem g m (refusals.Unusable e) = refl
+refused-counted b mem g m refusals.AmountOutOfRange = refl
+refused-counted b mem g m refusals.WrongProduct = refl
+refused-counted b mem g m refusals.NotBootstrapped = refl
+refused-counted b mem g m (refusals.Invalidated i) = refl
+refused-counted b mem g m (refusals.AwaitingSnapshot i) = refl
 
 decided-counted : (b : BookReconstructor) (mem : Memory) (m : L3Message) (t : Option InvalidationKind)
     → (decided b mem (last_of b.status) m t).book.counts ≡ counted_by (message_place b.rules (line_in mem b.rows) m.event None t) b.counts
@@ -119,7 +118,7 @@ unfolding decided invalidated_reply accepted_core accepted_reply event_deed
 decided-counted b mem m (Some k) = refl
 decided-counted b mem m None = refl
 
-answered-counted : (b : BookReconstructor) (mem : Memory) (g : Segment) (m : L3Message) (o : Option ApplyAnswer)
+answered-counted : (b : BookReconstructor) (mem : Memory) (g : Segment) (m : L3Message) (o : Option ApplyError)
     → (after_gate b mem g m o).book.counts
     ≡ counted_by (message_place b.rules (line_in mem b.rows) m.event o (turn_refusal b.rules (line_in mem b.rows) (last_of b.status) m)) b.counts
 unfolding after_gate

@@ -19,7 +19,7 @@ use Rattle.book.specs.Memory.{Memory, Extent, extent_of, orders_of, behind}
 use Rattle.book.proofs.Kept.{empty-formed, not-broken}
 use Rattle.reconstructor_answers.specs.declared.StateError.{StateError}
 use Rattle.reconstructor_answers.specs.declared.StateError.TheVariants.{LimitAboveCeiling, LentTooShort, MalformedBook}
-use Rattle.reconstructor_answers.specs.declared.ApplyAnswer.TheVariants as answers
+use Rattle.reconstructor_answers.specs.declared.ApplyError.TheVariants as refusals
 use Rattle.reconstructor_segments.specs.declared.Segment.{Segment}
 use Rattle.reconstructor_segments.specs.Segments.{last_segment}
 use Rattle.reconstructor_segments.proofs.Last.{last-front}
@@ -190,7 +190,7 @@ module _ (top : ℕ) (c : Config) (r : Extent) (s : ℕ) (w : World) (v : View) 
       → ((applied top w.book mem sg m).book ≡ w.book) × ((applied top w.book mem sg m).memory ≡ mem) × ((applied top w.book mem sg m).segments ≡ sg)
   early-applied h m =
       let e = early_own h in
-      let l = refusal-leaves top w.book mem sg m (answers.Unusable e.0) (gate-stops top w.book mem (length sg) (last_segment sg w.book.segments) m e.0 e.1) in
+      let l = refusal-leaves top w.book mem sg m (refusals.Unusable e.0) (gate-stops top w.book mem (length sg) (last_segment sg w.book.segments) m e.0 e.1) in
       (l.1, l.2, l.3)
 
   -- "3 never arises here"

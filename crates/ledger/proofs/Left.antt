@@ -12,7 +12,7 @@ use Rattle.message.specs.Values.{event_in_range}
 use Rattle.book.specs.Rows.{row_words, snapshot_row}
 use Rattle.book.specs.Memory.{Memory, line_in, orders_of, orders_by}
 use Rattle.book.proofs.Stored.{length-stored}
-use Rattle.reconstructor_answers.specs.declared.ApplyAnswer.{ApplyAnswer}
+use Rattle.reconstructor_answers.specs.declared.ApplyError.{ApplyError}
 use Rattle.reconstructor_answers.specs.declared.InvalidationKind.{InvalidationKind}
 use Rattle.reconstructor_segments.specs.declared.Segment.{Segment}
 use Rattle.reconstructor_segments.specs.Segments.{last_segment, relast, started}
@@ -64,7 +64,7 @@ module _ (top : ℕ) (b : BookReconstructor) (mem : Memory) (sg : List Segment) 
   same-rules (Some k) = refl
   same-rules None = refl
 
-  sizes : (g : Segment) (o : Option ApplyAnswer) → broken (after_gate b mem g m o).book (after_gate b mem g m o).memory ≡ false → length (after_gate b mem g m o).memory.rows ≡ length mem.rows
+  sizes : (g : Segment) (o : Option ApplyError) → broken (after_gate b mem g m o).book (after_gate b mem g m o).memory ≡ false → length (after_gate b mem g m o).memory.rows ≡ length mem.rows
   unfolding after_gate refused_reply
   sizes g (Some a) h = refl
   sizes g None h =

@@ -10,7 +10,7 @@ use mathlib.Core.List.{List, [], ◌∷◌, ◌++◌, append_assoc, append-nil}
 use lib.ListN.{take}
 use Rattle.message.specs.declared.L3Message.{L3Message}
 use Rattle.piece.specs.Piece.{read_snapshot}
-use Rattle.reconstructor_answers.specs.declared.ApplyAnswer.{ApplyAnswer}
+use Rattle.reconstructor_answers.specs.declared.ApplyError.{ApplyError}
 use Rattle.reconstructor_answers.specs.declared.InvalidationKind.{InvalidationKind}
 use Rattle.reconstructor_state.specs.declared.VenueRules.{VenueRules}
 use Rattle.reconstructor_state.specs.declared.Status.{Status}
@@ -36,7 +36,7 @@ touches (invalidates k) = Unit {0}
 touches dropped = ⊥
 touches accepted = Unit {0}
 
-touched : (g : Option ApplyAnswer) (t : Option InvalidationKind) → touches (outcome_of g t) → g ≡ None
+touched : (g : Option ApplyError) (t : Option InvalidationKind) → touches (outcome_of g t) → g ≡ None
 unfolding outcome_of
 touched (Some a) t h = absurd h
 touched None t h = refl

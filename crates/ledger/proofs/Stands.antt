@@ -19,8 +19,9 @@ use Rattle.book.specs.Memory.{Memory, line_in}
 use Rattle.book.proofs.Rows.{row_same, rows_same}
 use Rattle.book.proofs.Stored.{rows-stored}
 use Rattle.book.proofs.Kept.{line-snapshot}
-use Rattle.reconstructor_answers.specs.declared.ApplyAnswer.{ApplyAnswer}
-use Rattle.reconstructor_answers.specs.declared.ApplyAnswer.TheVariants as answers
+use Rattle.reconstructor_answers.specs.declared.Applied.{Applied}
+use Rattle.reconstructor_answers.specs.declared.ApplyError.{ApplyError}
+use Rattle.reconstructor_answers.specs.declared.ApplyError.TheVariants as refusals
 use Rattle.reconstructor_answers.specs.declared.InvalidationKind.{InvalidationKind}
 use Rattle.reconstructor_segments.specs.declared.Segment.{Segment}
 use Rattle.reconstructor_segments.specs.Segments.{no_segment, segment_at, last_segment, relast, same_segment, started}
@@ -100,14 +101,14 @@ start_set [] i g h = refl
 start_set (x ∷ sg) zero g h = h
 start_set (x ∷ sg) (suc i) g h = start_set sg i g h
 
-next_start : (g : Segment) (a : ApplyAnswer) (seq time : ℕ) → (next_segment g a seq time).start_seq ≡ g.start_seq
-next_start g (answers.Applied x) seq time = refl
-next_start g (answers.Unusable e) seq time = refl
-next_start g answers.AmountOutOfRange seq time = refl
-next_start g answers.WrongProduct seq time = refl
-next_start g answers.NotBootstrapped seq time = refl
-next_start g (answers.Invalidated i) seq time = refl
-next_start g (answers.AwaitingSnapshot i) seq time = refl
+next_start : (g : Segment) (a : Result Applied ApplyError) (seq time : ℕ) → (next_segment g a seq time).start_seq ≡ g.start_seq
+next_start g (Ok x) seq time = refl
+next_start g (Err (refusals.Unusable e)) seq time = refl
+next_start g (Err refusals.AmountOutOfRange) seq time = refl
+next_start g (Err refusals.WrongProduct) seq time = refl
+next_start g (Err refusals.NotBootstrapped) seq time = refl
+next_start g (Err (refusals.Invalidated i)) seq time = refl
+next_start g (Err (refusals.AwaitingSnapshot i)) seq time = refl
 
 relast-start : (sg : List Segment) (n : ℕ) (g : Segment) → g.start_seq ≡ (last_segment sg n).start_seq → (last_segment (relast sg n g) n).start_seq ≡ (last_segment sg n).start_seq
 relast-start sg zero g h = refl
@@ -129,7 +130,7 @@ module _ (top : ℕ) (b : BookReconstructor) (mem : Memory) (sg : List Segment) 
   abbrev last : Segment
   last = last_segment sg b.segments
 
-  abbrev gate : Option ApplyAnswer
+  abbrev gate : Option ApplyError
   gate = book_gate top b mem (length sg) last m
 
   -- the ledger meets the same number
@@ -137,16 +138,16 @@ module _ (top : ℕ) (b : BookReconstructor) (mem : Memory) (sg : List Segment) 
       ≡ outcome_of gate (turn_refusal b.rules (line_in mem b.rows) (last_of b.status) m)
   unfolding apply_outcome gate_refusal
   outcome-same =
-      ap (λ (o : Option ApplyAnswer). outcome_of o (turn_refusal b.rules (line_in mem b.rows) (last_of b.status) m))
+      ap (λ (o : Option ApplyError). outcome_of o (turn_refusal b.rules (line_in mem b.rows) (last_of b.status) m))
       (first_on _ _ _ _ (own-none top b mem sg u) refl ∙ sym (gate-trusted top b mem (length sg) last m u))
 
-  abbrev Facts : Option ApplyAnswer → Option InvalidationKind → Type 0
+  abbrev Facts : Option ApplyError → Option InvalidationKind → Type 0
   Facts o t =
       (config_of (after_gate b mem last m o).book ≡ config_of b)
       × (seen s (after_gate b mem last m o).book (after_gate b mem last m o).memory ≡ view_by b.rules m (outcome_of o t) (seen s b mem))
       × Starts s (after_gate b mem last m o).book (relast sg b.segments (after_gate b mem last m o).segment)
 
-  refused-facts : (a : ApplyAnswer) (t : Option InvalidationKind) → Facts (Some a) t
+  refused-facts : (a : ApplyError) (t : Option InvalidationKind) → Facts (Some a) t
   unfolding after_gate refused_reply outcome_of
   refused-facts a t =
       let e : refused_book b a ≡ with_counts b (refused_book b a).counts = refusal-counts b a in (
@@ -161,7 +162,7 @@ module _ (top : ℕ) (b : BookReconstructor) (mem : Memory) (sg : List Segment) 
       × (seen s (decided b mem (last_of b.status) m t).book (decided b mem (last_of b.status) m t).memory ≡ view_by b.rules m (outcome_of None t) (seen s b mem))
       × Starts s (decided b mem (last_of b.status) m t).book (relast sg b.segments (next_segment last (decided b mem (last_of b.status) m t).answer m.sequence m.time_us))
 
-  turn-start : (a : ApplyAnswer) → 0 < b.segments → (last_segment (relast sg b.segments (next_segment last a m.sequence m.time_us)) b.segments).start_seq ≡ s
+  turn-start : (a : Result Applied ApplyError) → 0 < b.segments → (last_segment (relast sg b.segments (next_segment last a m.sequence m.time_us)) b.segments).start_seq ≡ s
   turn-start a p = relast-start sg b.segments _ (next_start last a m.sequence m.time_us) ∙ st p
 
   turn_facts : (t : Option InvalidationKind) → turn_refusal b.rules (line_in mem b.rows) (last_of b.status) m ≡ t → Turns t
@@ -173,7 +174,7 @@ module _ (top : ℕ) (b : BookReconstructor) (mem : Memory) (sg : List Segment) 
     turn-start (decided b mem (last_of b.status) m None).answer,
   )
 
-  gate-facts : (o : Option ApplyAnswer) → Facts o (turn_refusal b.rules (line_in mem b.rows) (last_of b.status) m)
+  gate-facts : (o : Option ApplyError) → Facts o (turn_refusal b.rules (line_in mem b.rows) (last_of b.status) m)
   unfolding after_gate
   gate-facts (Some a) = refused-facts a _
   gate-facts None = turn_facts (turn_refusal b.rules (line_in mem b.rows) (last_of b.status) m) refl

@@ -1,7 +1,7 @@
 -- What a call keeps: a usable state stays usable, so that number 3 never arises later; a refusal leaves all but the counts that 01 names; 16 leaves
 -- the rows.
 -- Assumes nothing.
-use Rattle.std.specs.Prelude.{Option, Some, None}
+use Rattle.std.specs.Prelude.{Option, Some, None, Err}
 use Prim.Native.Nat.{ℕ, ◌<◌}
 use mathlib.Core.Path.{◌≡◌, refl, sym, ◌∙◌, ap}
 use mathlib.Core.Bool.{Bool, false, true}
@@ -27,9 +27,9 @@ use Rattle.reconstructor_segments.specs.declared.Segment.{Segment}
 use Rattle.reconstructor_segments.specs.Segments.{last_segment}
 use Rattle.reconstructor_state.specs.declared.VenueRules.{VenueRules}
 use Rattle.reconstructor_state.specs.declared.Status.{Status}
-use Rattle.reconstructor_answers.specs.declared.ApplyAnswer.{ApplyAnswer}
+use Rattle.reconstructor_answers.specs.declared.ApplyError.{ApplyError}
 use Rattle.reconstructor_state.specs.declared.BookReconstructor.{BookReconstructor}
-use Rattle.reconstructor_answers.specs.Numbers.{answer_number}
+use Rattle.reconstructor_answers.specs.Numbers.{apply_error_number}
 use Rattle.reconstructor_state.specs.State.{with, with_counts, last_of}
 use Rattle.reconstructor_checks.specs.StateChecks.{broken, Usable}
 use Rattle.reconstructor_plan.specs.Rules.{event_refusal, event_deed, effect}
@@ -43,53 +43,51 @@ use Rattle.reconstructor_checks.proofs.StateChecks.{sound, kept, rows-lent, has-
 use Rattle.reconstructor_plan.proofs.Kept.{event-formed}
 use Rattle.reconstructor_plan.proofs.Indexed.{noted-marks, event-marked, event-bounded}
 use Rattle.reconstructor.proofs.Laws.{admitted-valid, gate-trusted}
-use Rattle.reconstructor_answers.specs.declared.ApplyAnswer.TheVariants as answers
+use Rattle.reconstructor_answers.specs.declared.ApplyError.TheVariants as refusals
 
 -- ---- a refusal
 
-module _ (top : ℕ) (b : BookReconstructor) (mem : Memory) (sg : List Segment) (m : L3Message) (a : ApplyAnswer) (h : book_gate top b mem (length sg) (last_segment sg b.segments) m ≡ Some a) where
+module _ (top : ℕ) (b : BookReconstructor) (mem : Memory) (sg : List Segment) (m : L3Message) (a : ApplyError) (h : book_gate top b mem (length sg) (last_segment sg b.segments) m ≡ Some a) where
   -- before its turn a message leaves every lent word, and of the state all but the counts
-  pub refusal-leaves : ((applied top b mem sg m).answer ≡ a) × ((applied top b mem sg m).book ≡ refused_book b a)
+  pub refusal-leaves : ((applied top b mem sg m).answer ≡ Err a) × ((applied top b mem sg m).book ≡ refused_book b a)
       × ((applied top b mem sg m).memory ≡ mem) × ((applied top b mem sg m).segments ≡ sg)
   unfolding applied applied_to after_gate refused_reply
   refusal-leaves = rw h (refl, refl, refl, relast-same sg b.segments)
 
-pub refusal-counts : (b : BookReconstructor) (a : ApplyAnswer) → refused_book b a ≡ with_counts b (refused_book b a).counts
-refusal-counts b (answers.Applied a) = refl
-refusal-counts b (answers.Unusable e) = refl
-refusal-counts b answers.AmountOutOfRange = refl
-refusal-counts b answers.WrongProduct = refl
-refusal-counts b answers.NotBootstrapped = refl
-refusal-counts b (answers.Invalidated i) = refl
-refusal-counts b (answers.AwaitingSnapshot i) = refl
+pub refusal-counts : (b : BookReconstructor) (a : ApplyError) → refused_book b a ≡ with_counts b (refused_book b a).counts
+refusal-counts b (refusals.Unusable e) = refl
+refusal-counts b refusals.AmountOutOfRange = refl
+refusal-counts b refusals.WrongProduct = refl
+refusal-counts b refusals.NotBootstrapped = refl
+refusal-counts b (refusals.Invalidated i) = refl
+refusal-counts b (refusals.AwaitingSnapshot i) = refl
 
 -- and the counts too, but for 10 and 17
-pub uncounted : (b : BookReconstructor) (a : ApplyAnswer) → eqb (answer_number a) 10 ≡ false → eqb (answer_number a) 17 ≡ false → refused_book b a ≡ b
-uncounted b (answers.Applied a) p q = refl
-uncounted b (answers.Unusable e) p q = refl
-uncounted b answers.AmountOutOfRange p q = refl
-uncounted b answers.WrongProduct p q = let z : ◌≡◌ {A = ℕ} 0 1 = cc in absurd (omega arith)
-uncounted b answers.NotBootstrapped p q = refl
-uncounted b (answers.Invalidated i) p q = refl
-uncounted b (answers.AwaitingSnapshot i) p q = let z : ◌≡◌ {A = ℕ} 0 1 = cc in absurd (omega arith)
+pub uncounted : (b : BookReconstructor) (a : ApplyError) → eqb (apply_error_number a) 10 ≡ false → eqb (apply_error_number a) 17 ≡ false → refused_book b a ≡ b
+uncounted b (refusals.Unusable e) p q = refl
+uncounted b refusals.AmountOutOfRange p q = refl
+uncounted b refusals.WrongProduct p q = let z : ◌≡◌ {A = ℕ} 0 1 = cc in absurd (omega arith)
+uncounted b refusals.NotBootstrapped p q = refl
+uncounted b (refusals.Invalidated i) p q = refl
+uncounted b (refusals.AwaitingSnapshot i) p q = let z : ◌≡◌ {A = ℕ} 0 1 = cc in absurd (omega arith)
 
 -- ---- 16
 
 decided-stale : (b : BookReconstructor) (mem : Memory) (last : ℕ) (m : L3Message) (o : Option InvalidationKind) (i : Invalidation)
-    → (decided b mem last m o).answer ≡ answers.Invalidated i → (decided b mem last m o).memory ≡ mem
+    → (decided b mem last m o).answer ≡ Err (refusals.Invalidated i) → (decided b mem last m o).memory ≡ mem
 unfolding decided invalidated_reply accepted accepted_reply
 decided-stale b mem last m (Some k) i h = refl
 decided-stale b mem last m None i h = let z : ◌≡◌ {A = ℕ} 0 1 = cc in absurd (omega arith)
 
-answered-stale : (b : BookReconstructor) (mem : Memory) (g : Segment) (m : L3Message) (o : Option ApplyAnswer) (i : Invalidation)
-    → (after_gate b mem g m o).answer ≡ answers.Invalidated i → (after_gate b mem g m o).memory ≡ mem
+answered-stale : (b : BookReconstructor) (mem : Memory) (g : Segment) (m : L3Message) (o : Option ApplyError) (i : Invalidation)
+    → (after_gate b mem g m o).answer ≡ Err (refusals.Invalidated i) → (after_gate b mem g m o).memory ≡ mem
 unfolding after_gate refused_reply
 answered-stale b mem g m (Some a) i h = refl
 answered-stale b mem g m None i h = decided-stale b mem (last_of b.status) m (turn_refusal b.rules (line_in mem b.rows) (last_of b.status) m) i h
 
 -- "the rows stay as stale book"
 pub stale-rows : (top : ℕ) (b : BookReconstructor) (mem : Memory) (sg : List Segment) (m : L3Message) (i : Invalidation)
-    → (applied top b mem sg m).answer ≡ answers.Invalidated i → (applied top b mem sg m).memory ≡ mem
+    → (applied top b mem sg m).answer ≡ Err (refusals.Invalidated i) → (applied top b mem sg m).memory ≡ mem
 unfolding applied applied_to
 stale-rows top b mem sg m i h = answered-stale b mem (last_segment sg b.segments) m (book_gate top b mem (length sg) (last_segment sg b.segments) m) i h
 
@@ -114,7 +112,7 @@ module _ (top : ℕ) (b : BookReconstructor) (mem : Memory) (lent : ℕ) (u : Us
       → broken (with b s n k) after ≡ false → Usable top (with b s n k) after lent
   usable_as s n k after e h = record { within = u.within; lent = rw e u.lent; sound = h }
 
-  refused-usable : (a : ApplyAnswer) → Usable top (refused_book b a) mem lent
+  refused-usable : (a : ApplyError) → Usable top (refused_book b a) mem lent
   refused-usable a =
       rw (refusal-counts b a)
       (usable_as b.status b.rows (refused_book b a).counts mem refl (counts-sound b mem (refused_book b a).counts u.sound))
@@ -156,7 +154,7 @@ module _ (top : ℕ) (b : BookReconstructor) (mem : Memory) (lent : ℕ) (u : Us
         (event-formed b.rules mem.rows b.rows m.sequence (sound b mem u.sound).formed m.event (let_through b m h)
         (turn-event b.rules (line_in mem b.rows) (last_of b.status) m q))
 
-  answered-usable : (g : Segment) (m : L3Message) (o : Option ApplyAnswer) → admit_refusal b.product_id b.status m ≡ o
+  answered-usable : (g : Segment) (m : L3Message) (o : Option ApplyError) → admit_refusal b.product_id b.status m ≡ o
       → Usable top (after_gate b mem g m o).book (after_gate b mem g m o).memory lent
   unfolding after_gate refused_reply
   answered-usable g m (Some a) h = refused-usable a
@@ -180,7 +178,7 @@ module _ (f : Resting → Bool) (b : BookReconstructor) (mem : Memory) (m : L3Me
   decided_all last (Some k) = h
   decided_all last None = ap (all f) (rows-stored mem.rows b.rows (orders_by (effect b.rules (line_in mem b.rows) m.sequence m.event) (orders_of mem b.rows))) ∙ q
 
-  answered_all : (g : Segment) (o : Option ApplyAnswer) → all f (orders_left (after_gate b mem g m o)) ≡ true
+  answered_all : (g : Segment) (o : Option ApplyError) → all f (orders_left (after_gate b mem g m o)) ≡ true
   unfolding after_gate refused_reply
   answered_all g (Some a) = rw (refusal-counts b a) h
   answered_all g None = decided_all (last_of b.status) (turn_refusal b.rules (line_in mem b.rows) (last_of b.status) m)

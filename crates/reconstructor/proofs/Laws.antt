@@ -10,7 +10,7 @@ use Rattle.message.specs.declared.ProductId.{ProductId}
 use Rattle.message.specs.declared.L3Message.{L3Message}
 use Rattle.book.specs.Rows.{most_rows, stored}
 use Rattle.book.specs.Memory.{Memory, memory}
-use Rattle.reconstructor_answers.specs.declared.ApplyAnswer.TheVariants.{Unusable}
+use Rattle.reconstructor_answers.specs.declared.ApplyError.TheVariants.{Unusable}
 use Rattle.reconstructor_answers.specs.declared.StateError.{StateError}
 use Rattle.reconstructor_state.specs.declared.Status.{Status}
 use Rattle.reconstructor_state.specs.declared.Status.TheVariants.{Empty, Valid, Invalidated}

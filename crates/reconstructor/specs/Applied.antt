@@ -1,5 +1,5 @@
 -- One message applied to a book: the answer, the state, the lent memory and the last segment's record afterwards, for every input.
-use Rattle.std.specs.Prelude.{ℕ, List, length, Option, Some, None}
+use Rattle.std.specs.Prelude.{ℕ, List, length, Option, Some, None, Result, Ok, Err}
 use Rattle.message.specs.declared.L3Message.{L3Message}
 use Rattle.book.specs.Memory.{Memory, orders_of, line_in, orders_by, memory_by}
 use Rattle.reconstructor_answers.specs.declared.Applied.{Applied}
@@ -9,8 +9,8 @@ use Rattle.reconstructor_segments.specs.declared.Segment.{Segment}
 use Rattle.reconstructor_answers.specs.declared.Invalidation.{Invalidation}
 use Rattle.reconstructor_answers.specs.declared.InvalidationKind.{InvalidationKind}
 use Rattle.reconstructor_state.specs.declared.Status.TheVariants.{Valid, Invalidated}
-use Rattle.reconstructor_answers.specs.declared.ApplyAnswer.{ApplyAnswer}
-use Rattle.reconstructor_answers.specs.declared.ApplyAnswer.TheVariants as answers
+use Rattle.reconstructor_answers.specs.declared.ApplyError.{ApplyError}
+use Rattle.reconstructor_answers.specs.declared.ApplyError.TheVariants as refusals
 use Rattle.reconstructor_state.specs.declared.BookReconstructor.{BookReconstructor}
 use Rattle.reconstructor_counts.specs.Counts.{counted}
 use Rattle.reconstructor_segments.specs.Segments.{last_segment, relast, extended, ended}
@@ -25,7 +25,7 @@ use Rattle.reconstructor.specs.Refusals.{gate_refusal, turn_refusal}
 
 -- of the state and the memory
 pub record Core : Type 0 where
-  pub answer : ApplyAnswer
+  pub answer : Result Applied ApplyError
   pub book : BookReconstructor
   pub memory : Memory
 
@@ -34,7 +34,7 @@ core r mem = record { answer = r.answer; book = r.book; memory = mem }
 
 -- and of the last segment's record
 pub record Worked : Type 0 where
-  pub answer : ApplyAnswer
+  pub answer : Result Applied ApplyError
   pub book : BookReconstructor
   pub memory : Memory
   pub segment : Segment
@@ -47,7 +47,7 @@ with_record c g = record { answer = c.answer; book = c.book; memory = c.memory; 
 
 -- and of the segment list
 pub record Parts : Type 0 where
-  pub answer : ApplyAnswer
+  pub answer : Result Applied ApplyError
   pub book : BookReconstructor
   pub memory : Memory
   pub segments : List Segment
@@ -63,17 +63,16 @@ put_back sg n w = record { answer = w.answer; book = w.book; memory = w.memory; 
 
 -- "another product is 10 (counts wrong_product) .. an invalid book is 17 (counts skipped_while_invalid)". "Save for the counts named above .. a refusal changes no
 -- state and no buffer"
-abbrev pub refused_book : BookReconstructor → ApplyAnswer → BookReconstructor
-refused_book b (answers.Applied a) = b
-refused_book b (answers.Unusable e) = b
-refused_book b answers.AmountOutOfRange = b
-refused_book b answers.WrongProduct = with_counts b (counted b.counts WrongProduct)
-refused_book b answers.NotBootstrapped = b
-refused_book b (answers.Invalidated i) = b
-refused_book b (answers.AwaitingSnapshot i) = with_counts b (counted b.counts SkippedWhileInvalid)
+abbrev pub refused_book : BookReconstructor → ApplyError → BookReconstructor
+refused_book b (refusals.Unusable e) = b
+refused_book b refusals.AmountOutOfRange = b
+refused_book b refusals.WrongProduct = with_counts b (counted b.counts WrongProduct)
+refused_book b refusals.NotBootstrapped = b
+refused_book b (refusals.Invalidated i) = b
+refused_book b (refusals.AwaitingSnapshot i) = with_counts b (counted b.counts SkippedWhileInvalid)
 
-unfoldable pub refused_reply : BookReconstructor → ApplyAnswer → Reply
-refused_reply b a = record { answer = a; book = refused_book b a }
+unfoldable pub refused_reply : BookReconstructor → ApplyError → Reply
+refused_reply b e = record { answer = Err e; book = refused_book b e }
 
 -- "the answer is 16 with the last good sequence, the offending one and the reason"
 abbrev pub invalidation : ℕ → ℕ → InvalidationKind → Invalidation
@@ -82,11 +81,11 @@ invalidation last seq k = record { last_good_seq = last; first_offending_seq = s
 -- "Results 20 to 44 invalidate .. the rows stay as stale book"
 unfoldable pub invalidated_reply : BookReconstructor → ℕ → ℕ → InvalidationKind → Reply
 invalidated_reply b last seq k =
-    record { answer = answers.Invalidated (invalidation last seq k); book = with_status b (Invalidated (invalidation last seq k)) }
+    record { answer = Err (refusals.Invalidated (invalidation last seq k)); book = with_status b (Invalidated (invalidation last seq k)) }
 
 -- "Acceptance sets last sequence .. and adds one to one counter"
 unfoldable pub accepted_reply : BookReconstructor → ℕ → ℕ → Counter → Applied → Reply
-accepted_reply b seq n k a = record { answer = answers.Applied a; book = with b (Valid seq) n (counted b.counts k) }
+accepted_reply b seq n k a = record { answer = Ok a; book = with b (Valid seq) n (counted b.counts k) }
 
 unfoldable pub accepted : BookReconstructor → Memory → ℕ → Deed → Core
 accepted b mem seq d =
@@ -94,14 +93,14 @@ accepted b mem seq d =
 
 -- ---- the last segment's record
 
-abbrev pub next_segment : Segment → ApplyAnswer → ℕ → ℕ → Segment
-next_segment g (answers.Applied a) seq time = extended g seq time
-next_segment g (answers.Unusable e) seq time = g
-next_segment g answers.AmountOutOfRange seq time = g
-next_segment g answers.WrongProduct seq time = g
-next_segment g answers.NotBootstrapped seq time = g
-next_segment g (answers.Invalidated i) seq time = ended g i
-next_segment g (answers.AwaitingSnapshot i) seq time = g
+abbrev pub next_segment : Segment → Result Applied ApplyError → ℕ → ℕ → Segment
+next_segment g (Ok a) seq time = extended g seq time
+next_segment g (Err (refusals.Unusable e)) seq time = g
+next_segment g (Err refusals.AmountOutOfRange) seq time = g
+next_segment g (Err refusals.WrongProduct) seq time = g
+next_segment g (Err refusals.NotBootstrapped) seq time = g
+next_segment g (Err (refusals.Invalidated i)) seq time = ended g i
+next_segment g (Err (refusals.AwaitingSnapshot i)) seq time = g
 
 -- ---- the whole
 
@@ -114,13 +113,13 @@ abbrev pub at_turn : BookReconstructor → Memory → ℕ → L3Message → Core
 at_turn b mem last m = decided b mem last m (turn_refusal b.rules (line_in mem b.rows) last m)
 
 -- a message that is turned away before its turn, or let through
-unfoldable pub after_gate : BookReconstructor → Memory → Segment → L3Message → Option ApplyAnswer → Worked
-after_gate b mem g m (Some a) = with_record (core (refused_reply b a) mem) g
+unfoldable pub after_gate : BookReconstructor → Memory → Segment → L3Message → Option ApplyError → Worked
+after_gate b mem g m (Some e) = with_record (core (refused_reply b e) mem) g
 after_gate b mem g m None =
     with_record (at_turn b mem (last_of b.status) m) (next_segment g (at_turn b mem (last_of b.status) m).answer m.sequence m.time_us)
 
 -- any message, the last record being g, of a list of so many; the ceiling of the limits is an argument
-abbrev pub book_gate : ℕ → BookReconstructor → Memory → ℕ → Segment → L3Message → Option ApplyAnswer
+abbrev pub book_gate : ℕ → BookReconstructor → Memory → ℕ → Segment → L3Message → Option ApplyError
 book_gate top b mem lent g m = gate_refusal top b.product_id b.rules (lengths_with mem lent) (broken b mem) (view_with b mem g) m
 
 unfoldable pub applied_to : ℕ → BookReconstructor → Memory → ℕ → Segment → L3Message → Worked

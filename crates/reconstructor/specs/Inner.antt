@@ -4,7 +4,7 @@ use Rattle.message.specs.declared.L3Message.{L3Message}
 use Rattle.book.specs.Rows.{rows_of, stored}
 use Rattle.book.specs.Memory.{Memory, memory}
 use Rattle.reconstructor_answers.specs.declared.InvalidationKind.{InvalidationKind}
-use Rattle.reconstructor_answers.specs.declared.ApplyAnswer.{ApplyAnswer}
+use Rattle.reconstructor_answers.specs.declared.ApplyError.{ApplyError}
 use Rattle.reconstructor_segments.specs.declared.Segment.{Segment}
 use Rattle.reconstructor_state.specs.declared.BookReconstructor.{BookReconstructor}
 use Rattle.reconstructor_plan.specs.Rules.{Deed}
@@ -15,7 +15,7 @@ use Rattle.reconstructor.specs.Refusals.{admit_refusal}
 use Rattle.reconstructor.specs.Applied.{Core, core, Worked, accepted_reply, after_gate}
 use Rattle.reconstructor_plan.specs.declared.Plan.{Plan}
 
-abbrev pub AdmitsFor : Option ApplyAnswer → ℕ → Result ℕ ApplyAnswer → Type 0
+abbrev pub AdmitsFor : Option ApplyError → ℕ → Result ℕ ApplyError → Type 0
 AdmitsFor refusal last (Err a) = refusal ≡ Some a
 AdmitsFor refusal last (Ok l) = (refusal ≡ None) × (l ≡ last)
 

@@ -1,5 +1,5 @@
 -- The numbers of 01's table that the cases of each answer stand for, and the values that they carry.
-use Rattle.std.specs.Prelude.{ℕ, List, [], ◌∷◌}
+use Rattle.std.specs.Prelude.{ℕ, List, [], ◌∷◌, Result, Ok, Err}
 use Rattle.message.specs.Told.{Told, told, changed}
 use Rattle.reconstructor_answers.specs.declared.MalformedReason.{MalformedReason}
 use Rattle.reconstructor_answers.specs.declared.MalformedReason.TheVariants.{Funds, NoSize}
@@ -12,8 +12,8 @@ use Rattle.reconstructor_answers.specs.declared.StateError.{StateError}
 use Rattle.reconstructor_answers.specs.declared.StateError.TheVariants.{LimitAboveCeiling, LentTooShort, MalformedBook}
 use Rattle.reconstructor_answers.specs.declared.Applied.{Applied}
 use Rattle.reconstructor_answers.specs.declared.Applied.TheVariants.{BookChanged, NoBookEffect}
-use Rattle.reconstructor_answers.specs.declared.ApplyAnswer.{ApplyAnswer}
-use Rattle.reconstructor_answers.specs.declared.ApplyAnswer.TheVariants as answers
+use Rattle.reconstructor_answers.specs.declared.ApplyError.{ApplyError}
+use Rattle.reconstructor_answers.specs.declared.ApplyError.TheVariants as refusals
 
 -- 30 to 44
 abbrev pub discrepancy_number : Discrepancy → ℕ
@@ -96,15 +96,22 @@ abbrev pub applied_number : Applied → ℕ
 applied_number BookChanged = changed
 applied_number NoBookEffect = 0
 
--- the answer of `apply`; 16 and 17 carry the invalidation
-abbrev pub answer_told : ApplyAnswer → Told
-answer_told (answers.Applied a) = told (applied_number a) []
-answer_told (answers.Unusable e) = told (state_error_number e) []
-answer_told answers.AmountOutOfRange = told 5 []
-answer_told answers.WrongProduct = told 10 []
-answer_told answers.NotBootstrapped = told 15 []
-answer_told (answers.Invalidated i) = told 16 (invalidation_values i)
-answer_told (answers.AwaitingSnapshot i) = told 17 (invalidation_values i)
+-- why `apply` does not apply a message; 16 and 17 carry the invalidation
+abbrev pub apply_error_told : ApplyError → Told
+apply_error_told (refusals.Unusable e) = told (state_error_number e) []
+apply_error_told refusals.AmountOutOfRange = told 5 []
+apply_error_told refusals.WrongProduct = told 10 []
+apply_error_told refusals.NotBootstrapped = told 15 []
+apply_error_told (refusals.Invalidated i) = told 16 (invalidation_values i)
+apply_error_told (refusals.AwaitingSnapshot i) = told 17 (invalidation_values i)
 
-abbrev pub answer_number : ApplyAnswer → ℕ
+abbrev pub apply_error_number : ApplyError → ℕ
+apply_error_number e = (apply_error_told e).number
+
+-- the answer of `apply`
+abbrev pub answer_told : Result Applied ApplyError → Told
+answer_told (Ok a) = told (applied_number a) []
+answer_told (Err e) = apply_error_told e
+
+abbrev pub answer_number : Result Applied ApplyError → ℕ
 answer_number a = (answer_told a).number

@@ -2,7 +2,7 @@
 #![tactic(auto)]
 
 ghost use Rattle.std.specs.Prelude.{◌≡◌};
-ghost use Rattle.reconstructor_answers.specs.Numbers.{reason_detail, discrepancy_number, discrepancy_detail, kind_number, kind_detail, state_error_number, applied_number, answer_number};
+ghost use Rattle.reconstructor_answers.specs.Numbers.{reason_detail, discrepancy_number, discrepancy_detail, kind_number, kind_detail, state_error_number, applied_number, apply_error_number, answer_number};
 
 // Why a change without a new size is malformed.
 #[derive(Clone, Copy)]
@@ -70,10 +70,9 @@ pub enum Applied {
     NoBookEffect,
 }
 
-// The answer of `apply`: the message was applied, or 1, 2, 3, 5, 10, 15, 16, 17.
+// Why `apply` does not apply a message: 1, 2, 3, 5, 10, 15, 16, 17.
 #[derive(Clone, Copy)]
-pub enum ApplyAnswer {
-    Applied(Applied),
+pub enum ApplyError {
     Unusable(StateError),
     AmountOutOfRange,
     WrongProduct,
@@ -190,19 +189,27 @@ impl Applied {
     }
 }
 
-impl ApplyAnswer {
-    // 256 where the message was applied and changed the book, 0 where it was applied without effect, else 01's number.
+impl ApplyError {
     pub fn number(self) -> u64
-        ensures { result ≡ answer_number self }
+        ensures { result ≡ apply_error_number self }
     {
         match self {
-            ApplyAnswer::Applied(applied) => applied.number(),
-            ApplyAnswer::Unusable(why) => why.number(),
-            ApplyAnswer::AmountOutOfRange => 5,
-            ApplyAnswer::WrongProduct => 10,
-            ApplyAnswer::NotBootstrapped => 15,
-            ApplyAnswer::Invalidated(_) => 16,
-            ApplyAnswer::AwaitingSnapshot(_) => 17,
+            ApplyError::Unusable(why) => why.number(),
+            ApplyError::AmountOutOfRange => 5,
+            ApplyError::WrongProduct => 10,
+            ApplyError::NotBootstrapped => 15,
+            ApplyError::Invalidated(_) => 16,
+            ApplyError::AwaitingSnapshot(_) => 17,
         }
+    }
+}
+
+// 256 where the message was applied and changed the book, 0 where it was applied without effect, else 01's number.
+pub fn answer_number(answer: Result<Applied, ApplyError>) -> u64
+    ensures { result ≡ answer_number answer }
+{
+    match answer {
+        Ok(applied) => applied.number(),
+        Err(why) => why.number(),
     }
 }

@@ -10,7 +10,7 @@ ghost use Rattle.reconstructor.specs.Applied.{worked, applied_to};
 
 use message::L3Message;
 use reconstructor::Work;
-use reconstructor_answers::ApplyAnswer;
+use reconstructor_answers::ApplyError;
 use reconstructor_apply_parts::{refused, work_of};
 use reconstructor_apply_trusted::apply_trusted;
 use reconstructor_segments::Segment;
@@ -29,7 +29,7 @@ pub fn apply_under(
     ensures { worked result (memory rows.new) ≡ applied_to top book (memory rows.old) lent last message }
 {
     match reconstructor_checks::own_checks(top, book, rows, lent) {
-        Err(why) => work_of(refused(book, ApplyAnswer::Unusable(why)), last),
+        Err(why) => work_of(refused(book, ApplyError::Unusable(why)), last),
         Ok(()) => apply_trusted(book, rows, last, message),
     }
 }

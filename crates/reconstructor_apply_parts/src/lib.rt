@@ -9,7 +9,7 @@ ghost use Rattle.reconstructor.specs.Inner.{AdmitsFor};
 
 use message::L3Message;
 use reconstructor::{Reply, Work};
-use reconstructor_answers::ApplyAnswer;
+use reconstructor_answers::{Applied, ApplyError};
 use reconstructor_counts::Counter;
 use reconstructor_segments::Segment;
 use reconstructor_state::{BookReconstructor, Status};
@@ -27,20 +27,21 @@ pub fn work_of(reply: Reply, segment: Segment) -> Work
 }
 
 // A refusal before the turn: 10 and 17 are counted.
-pub fn refused(book: BookReconstructor, answer: ApplyAnswer) -> Reply
-    ensures { result ≡ refused_reply book answer }
+#[tactic(auto, unfolding(reconstructor::specs::Applied::refused_reply))]
+pub fn refused(book: BookReconstructor, error: ApplyError) -> Reply
+    ensures { result ≡ refused_reply book error }
 {
-    match answer {
-        ApplyAnswer::Applied(_) => Reply { book, answer },
-        ApplyAnswer::Unusable(_) => Reply { book, answer },
-        ApplyAnswer::AmountOutOfRange => Reply { book, answer },
-        ApplyAnswer::WrongProduct => Reply {
+    let answer = Err(error);
+    match error {
+        ApplyError::Unusable(_) => Reply { book, answer },
+        ApplyError::AmountOutOfRange => Reply { book, answer },
+        ApplyError::WrongProduct => Reply {
             book: book.counting(Counter::WrongProduct),
             answer,
         },
-        ApplyAnswer::NotBootstrapped => Reply { book, answer },
-        ApplyAnswer::Invalidated(_) => Reply { book, answer },
-        ApplyAnswer::AwaitingSnapshot(_) => Reply {
+        ApplyError::NotBootstrapped => Reply { book, answer },
+        ApplyError::Invalidated(_) => Reply { book, answer },
+        ApplyError::AwaitingSnapshot(_) => Reply {
             book: book.counting(Counter::SkippedWhileInvalid),
             answer,
         },
@@ -48,37 +49,38 @@ pub fn refused(book: BookReconstructor, answer: ApplyAnswer) -> Reply
 }
 
 // What comes before the sequence in a state that passed 1, 2 and 3: 5, 10, 15, 17.
-pub fn admit(book: BookReconstructor, message: L3Message) -> Result<u64, ApplyAnswer>
+pub fn admit(book: BookReconstructor, message: L3Message) -> Result<u64, ApplyError>
     ensures { AdmitsFor (admit_refusal book.product_id book.status message) (last_of book.status) result }
 {
     let event = message.event;
     if !message_range::event_in_range(event) {
-        return Err(ApplyAnswer::AmountOutOfRange);
+        return Err(ApplyError::AmountOutOfRange);
     }
     let expected = book.product_id;
     let got = message.product_id;
     if !message::same_product(got, expected) {
-        return Err(ApplyAnswer::WrongProduct);
+        return Err(ApplyError::WrongProduct);
     }
     let status = book.status;
     match status {
-        Status::Empty => Err(ApplyAnswer::NotBootstrapped),
+        Status::Empty => Err(ApplyError::NotBootstrapped),
         Status::Valid { last_seq } => Ok(last_seq),
-        Status::Invalidated(invalidation) => { Err(ApplyAnswer::AwaitingSnapshot(invalidation)) }
+        Status::Invalidated(invalidation) => { Err(ApplyError::AwaitingSnapshot(invalidation)) }
     }
 }
 
 // What an answer makes of the last segment's record.
-pub fn next_segment(last: Segment, answer: ApplyAnswer, seq: u64, time_us: u64) -> Segment
+pub fn next_segment(
+    last: Segment,
+    answer: Result<Applied, ApplyError>,
+    seq: u64,
+    time_us: u64,
+) -> Segment
     ensures { result ≡ next_segment last answer seq time_us }
 {
     match answer {
-        ApplyAnswer::Applied(_) => last.extended(seq, time_us),
-        ApplyAnswer::Unusable(_) => last,
-        ApplyAnswer::AmountOutOfRange => last,
-        ApplyAnswer::WrongProduct => last,
-        ApplyAnswer::NotBootstrapped => last,
-        ApplyAnswer::Invalidated(invalidation) => last.ended(invalidation),
-        ApplyAnswer::AwaitingSnapshot(_) => last,
+        Ok(_) => last.extended(seq, time_us),
+        Err(ApplyError::Invalidated(invalidation)) => last.ended(invalidation),
+        Err(_) => last,
     }
 }

@@ -1,10 +1,12 @@
 -- What an answer of `apply` makes of a handshake, stored part by part.
 -- Assumes nothing.
+use Rattle.std.specs.Prelude.{Result, Ok, Err}
 use Prim.Native.Nat.{ℕ}
 use mathlib.Core.Path.{◌≡◌, refl, ap, ap₂, ◌∙◌}
 use mathlib.Core.Bool.{Bool, true, false, ◌||◌}
-use Rattle.reconstructor_answers.specs.declared.ApplyAnswer.{ApplyAnswer}
-use Rattle.reconstructor_answers.specs.declared.ApplyAnswer.TheVariants as answers
+use Rattle.reconstructor_answers.specs.declared.Applied.{Applied}
+use Rattle.reconstructor_answers.specs.declared.ApplyError.{ApplyError}
+use Rattle.reconstructor_answers.specs.declared.ApplyError.TheVariants as refusals
 use Rattle.reconstructor_handshake.specs.declared.Handshake.{Handshake}
 use Rattle.reconstructor_handshake.specs.Step.{with, after}
 use Rattle.reconstructor_handshake_rules.specs.Answers.{ends, applied_by}
@@ -24,14 +26,14 @@ module _ (h : Handshake) where
   over : with h (h.ended || true) h.applied ≡ with h true h.applied
   over = ap (λ (e : Bool). with h e h.applied) (or_all h.ended)
 
-  after-parts : (a : ApplyAnswer) → with h (h.ended || ends a) (applied_by h.applied a) ≡ after h a
-  after-parts (answers.Applied x) = stays _
-  after-parts (answers.Unusable e) = stays _
-  after-parts answers.AmountOutOfRange = stays _
-  after-parts answers.WrongProduct = stays _
-  after-parts answers.NotBootstrapped = stays _
-  after-parts (answers.Invalidated i) = over
-  after-parts (answers.AwaitingSnapshot i) = over
+  after-parts : (a : Result Applied ApplyError) → with h (h.ended || ends a) (applied_by h.applied a) ≡ after h a
+  after-parts (Ok x) = stays _
+  after-parts (Err (refusals.Unusable e)) = stays _
+  after-parts (Err refusals.AmountOutOfRange) = stays _
+  after-parts (Err refusals.WrongProduct) = stays _
+  after-parts (Err refusals.NotBootstrapped) = stays _
+  after-parts (Err (refusals.Invalidated i)) = over
+  after-parts (Err (refusals.AwaitingSnapshot i)) = over
 
-  pub after-stored : (a : ApplyAnswer) (e : Bool) (n : ℕ) → e ≡ (h.ended || ends a) → n ≡ applied_by h.applied a → with h e n ≡ after h a
+  pub after-stored : (a : Result Applied ApplyError) (e : Bool) (n : ℕ) → e ≡ (h.ended || ends a) → n ≡ applied_by h.applied a → with h e n ≡ after h a
   after-stored a e n p q = ap₂ (with h) p q ∙ after-parts a

@@ -1,6 +1,6 @@
 -- A step, case by case, by value and on a list.
 -- Assumes nothing.
-use Rattle.std.specs.Prelude.{Option, Some, None}
+use Rattle.std.specs.Prelude.{Option, Some, None, Err}
 use Prim.Native.Nat.{ℕ}
 use mathlib.Core.Path.{◌≡◌, refl, ap, ◌∙◌}
 use mathlib.Core.Bool.{true, false, not, cond}
@@ -10,7 +10,7 @@ use Rattle.message.specs.declared.L3Message.{L3Message}
 use Rattle.message.specs.Values.{event_in_range}
 use Rattle.book.specs.Memory.{Memory}
 use Rattle.reconstructor_answers.specs.declared.StateError.{StateError}
-use Rattle.reconstructor_answers.specs.declared.ApplyAnswer.TheVariants as answers
+use Rattle.reconstructor_answers.specs.declared.ApplyError.TheVariants as refusals
 use Rattle.reconstructor_counts.specs.declared.Counter.TheVariants.{HandshakeDropped}
 use Rattle.reconstructor_counts.specs.Counts.{counted}
 use Rattle.reconstructor_segments.specs.declared.Segment.{Segment}
@@ -41,7 +41,7 @@ module _ (top : ℕ) (h : Handshake) (b : BookReconstructor) (mem : Memory) (len
   unfolding stepped_to unless_refused
   turned-away a e = rw e
 
-  pub unusable-work : (e : StateError) → book_refusal top b mem lent ≡ Some e → stepped_to top h b mem lent g m ≡ unchanged (Stepped (answers.Unusable e)) h b mem g
+  pub unusable-work : (e : StateError) → book_refusal top b mem lent ≡ Some e → stepped_to top h b mem lent g m ≡ unchanged (Stepped (Err (refusals.Unusable e))) h b mem g
   unfolding step_refusal
   unusable-work e q = turned-away _ (first-fails _ _ _ _ q)
 
@@ -51,14 +51,14 @@ module _ (top : ℕ) (h : Handshake) (b : BookReconstructor) (mem : Memory) (len
     unfolding stepped_to step_to step_refusal
     usable-work =
         rw (first_on _ _ _ _ (usable-none top b mem lent u) refl)
-        (ap (λ (w : Worked). unless_refused (check (other_segment h (segment_of b) b.segments) OtherSegment (check (not (event_in_range m.event)) (Stepped answers.AmountOutOfRange) None)) (cond (drops b.product_id g.start_seq m) (dropped h b mem g) (by_apply h w)) h b mem g) (applied-trusted_to top b mem lent g m u))
+        (ap (λ (w : Worked). unless_refused (check (other_segment h (segment_of b) b.segments) OtherSegment (check (not (event_in_range m.event)) (Stepped (Err refusals.AmountOutOfRange)) None)) (cond (drops b.product_id g.start_seq m) (dropped h b mem g) (by_apply h w)) h b mem g) (applied-trusted_to top b mem lent g m u))
 
     other-work : other_segment h (segment_of b) b.segments ≡ true → stepped_to top h b mem lent g m ≡ unchanged OtherSegment h b mem g
     unfolding step_refusal
     other-work p = turned-away _ (first_on _ _ _ _ (usable-none top b mem lent u) (fails _ _ _ p))
 
     module _ (p : other_segment h (segment_of b) b.segments ≡ false) where
-      out_of_range-work : not (event_in_range m.event) ≡ true → stepped_to top h b mem lent g m ≡ unchanged (Stepped answers.AmountOutOfRange) h b mem g
+      out_of_range-work : not (event_in_range m.event) ≡ true → stepped_to top h b mem lent g m ≡ unchanged (Stepped (Err refusals.AmountOutOfRange)) h b mem g
       unfolding step_refusal
       out_of_range-work q = turned-away _ (first_on _ _ _ _ (usable-none top b mem lent u) (goes_on _ _ _ _ p (fails _ _ _ q)))
 
@@ -92,7 +92,7 @@ module _ (top : ℕ) (h : Handshake) (b : BookReconstructor) (mem : Memory) (sg 
   same : (a : StepAnswer) (c : BookReconstructor) (w : StepWorked) → w ≡ unchanged a h c mem last → put_back sg b.segments w ≡ unchanged_parts a h c mem sg
   same a c w e = ap (put_back sg b.segments) e ∙ ap (unchanged_parts a h c mem) (relast-same sg b.segments)
 
-  pub unusable-step : (e : StateError) → book_refusal top b mem (length sg) ≡ Some e → stepped top h b mem sg m ≡ unchanged_parts (Stepped (answers.Unusable e)) h b mem sg
+  pub unusable-step : (e : StateError) → book_refusal top b mem (length sg) ≡ Some e → stepped top h b mem sg m ≡ unchanged_parts (Stepped (Err (refusals.Unusable e))) h b mem sg
   unfolding stepped
   unusable-step e q = same _ b _ (unusable-work top h b mem (length sg) last m e q)
 
@@ -102,7 +102,7 @@ module _ (top : ℕ) (h : Handshake) (b : BookReconstructor) (mem : Memory) (sg 
     other_step p = same _ b _ (other-work top h b mem (length sg) last m u p)
 
     module _ (p : other_segment h (segment_of b) b.segments ≡ false) where
-      pub out_of_range-step : not (event_in_range m.event) ≡ true → stepped top h b mem sg m ≡ unchanged_parts (Stepped answers.AmountOutOfRange) h b mem sg
+      pub out_of_range-step : not (event_in_range m.event) ≡ true → stepped top h b mem sg m ≡ unchanged_parts (Stepped (Err refusals.AmountOutOfRange)) h b mem sg
       unfolding stepped
       out_of_range-step q = same _ b _ (out_of_range-work top h b mem (length sg) last m u p q)
 

@@ -1,10 +1,10 @@
 -- What the inner functions promise: a step of a state that was tested before. Nothing here is for a reader to believe: the promise of a step speaks of
 -- `stepped_to`.
-use Rattle.std.specs.Prelude.{not, cond, None}
+use Rattle.std.specs.Prelude.{not, cond, None, Err}
 use Rattle.message.specs.declared.L3Message.{L3Message}
 use Rattle.message.specs.Values.{event_in_range}
 use Rattle.book.specs.Memory.{Memory}
-use Rattle.reconstructor_answers.specs.declared.ApplyAnswer.TheVariants as answers
+use Rattle.reconstructor_answers.specs.declared.ApplyError.TheVariants as refusals
 use Rattle.reconstructor_segments.specs.declared.Segment.{Segment}
 use Rattle.reconstructor_state.specs.declared.BookReconstructor.{BookReconstructor}
 use Rattle.reconstructor_state.specs.Checks.{check}
@@ -27,7 +27,7 @@ admitted_to h b mem g m =
 unfoldable pub step_to : Handshake → BookReconstructor → Memory → Segment → L3Message → StepWorked
 step_to h b mem g m =
     unless_refused
-    (check (other_segment h (segment_of b) b.segments) OtherSegment (check (not (event_in_range m.event)) (Stepped answers.AmountOutOfRange) None))
+    (check (other_segment h (segment_of b) b.segments) OtherSegment (check (not (event_in_range m.event)) (Stepped (Err refusals.AmountOutOfRange)) None))
     (admitted_to h b mem g m)
     h
     b

@@ -1,13 +1,14 @@
 -- A handshake step: what it answers and leaves, for every input. 01, bootstrap_with_buffer: "a handshake value for that segment stepped by one message a call:
 -- after 1, 2, 3, 9, 5, the same product at or below that segment's start_seq, whatever the value holds, is dropped and counted; else `apply` decides. 10
 -- passes by; 16 or 17 ends the handshake; it keeps the number applied."
-use Rattle.std.specs.Prelude.{ℕ, Bool, true, not, ◌||◌, cond, List, [], eqb, length, Option, Some, None}
+use Rattle.std.specs.Prelude.{ℕ, Bool, true, not, ◌||◌, cond, List, [], eqb, length, Option, Some, None, Result, Ok, Err}
 use Rattle.message.specs.declared.L3Message.{L3Message}
 use Rattle.message.specs.Values.{event_in_range}
 use Rattle.book.specs.Memory.{Memory}
 use Rattle.reconstructor_answers.specs.declared.StateError.{StateError}
-use Rattle.reconstructor_answers.specs.declared.ApplyAnswer.{ApplyAnswer}
-use Rattle.reconstructor_answers.specs.declared.ApplyAnswer.TheVariants as answers
+use Rattle.reconstructor_answers.specs.declared.Applied.{Applied}
+use Rattle.reconstructor_answers.specs.declared.ApplyError.{ApplyError}
+use Rattle.reconstructor_answers.specs.declared.ApplyError.TheVariants as refusals
 use Rattle.message.specs.Told.{Told, told, dropped_number}
 use Rattle.reconstructor_answers.specs.Numbers.{answer_told}
 use Rattle.reconstructor_counts.specs.declared.Counter.TheVariants.{HandshakeDropped}
@@ -52,8 +53,8 @@ other_segment h name segments = h.ended || (eqb segments 0 || not (same_segment 
 -- 1, 2, 3, 9, 5; `three` says whether number 3 arises
 unfoldable pub step_refusal : ℕ → VenueRules → Lengths → Bool → View → SegmentName → Handshake → L3Message → Option StepAnswer
 step_refusal top v lent three w name h m =
-    first (state_refusal top v lent three w.segments) (λ (e : StateError). Stepped (answers.Unusable e))
-    (check (other_segment h name w.segments) OtherSegment (check (not (event_in_range m.event)) (Stepped answers.AmountOutOfRange) None))
+    first (state_refusal top v lent three w.segments) (λ (e : StateError). Stepped (Err (refusals.Unusable e)))
+    (check (other_segment h name w.segments) OtherSegment (check (not (event_in_range m.event)) (Stepped (Err refusals.AmountOutOfRange)) None))
 
 -- ---- what a step leaves
 
@@ -88,14 +89,14 @@ abbrev pub with : Handshake → Bool → ℕ → Handshake
 with h ended applied = record { segment = h.segment; ended = ended; applied = applied }
 
 -- "10 passes by; 16 or 17 ends the handshake; it keeps the number applied"
-abbrev pub after : Handshake → ApplyAnswer → Handshake
-after h (answers.Applied a) = with h h.ended (saturated h.applied)
-after h (answers.Unusable e) = h
-after h answers.AmountOutOfRange = h
-after h answers.WrongProduct = h
-after h answers.NotBootstrapped = h
-after h (answers.Invalidated i) = with h true h.applied
-after h (answers.AwaitingSnapshot i) = with h true h.applied
+abbrev pub after : Handshake → Result Applied ApplyError → Handshake
+after h (Ok a) = with h h.ended (saturated h.applied)
+after h (Err (refusals.Unusable e)) = h
+after h (Err refusals.AmountOutOfRange) = h
+after h (Err refusals.WrongProduct) = h
+after h (Err refusals.NotBootstrapped) = h
+after h (Err (refusals.Invalidated i)) = with h true h.applied
+after h (Err (refusals.AwaitingSnapshot i)) = with h true h.applied
 
 abbrev pub unchanged : StepAnswer → Handshake → BookReconstructor → Memory → Segment → StepWorked
 unchanged a h b mem g = record { answer = a; handshake = h; book = b; memory = mem; segment = g }

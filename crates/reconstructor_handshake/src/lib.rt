@@ -11,7 +11,7 @@ ghost use Rattle.reconstructor_handshake.specs.Inner.{decided_of, admitted_to, s
 
 use message::L3Message;
 use reconstructor::Work;
-use reconstructor_answers::ApplyAnswer;
+use reconstructor_answers::{Applied, ApplyError, answer_number};
 use reconstructor_apply_trusted::apply_trusted;
 use reconstructor_counts::Counter;
 use reconstructor_handshake_rules::{applied_by, drops, ends};
@@ -29,7 +29,7 @@ pub struct Handshake {
 // The answer of a step: what `apply` says, a drop, or 9.
 #[derive(Clone, Copy)]
 pub enum StepAnswer {
-    Stepped(ApplyAnswer),
+    Stepped(Result<Applied, ApplyError>),
     Dropped,
     OtherSegment,
 }
@@ -76,7 +76,7 @@ impl StepAnswer {
         ensures { result ≡ step_number self }
     {
         match self {
-            StepAnswer::Stepped(answer) => answer.number(),
+            StepAnswer::Stepped(answer) => answer_number(answer),
             StepAnswer::Dropped => 512,
             StepAnswer::OtherSegment => 9,
         }
@@ -168,7 +168,7 @@ impl Handshake {
         }
         let event = message.event;
         if !message_range::event_in_range(event) {
-            let answer = StepAnswer::Stepped(ApplyAnswer::AmountOutOfRange);
+            let answer = StepAnswer::Stepped(Err(ApplyError::AmountOutOfRange));
             return self.unchanged(book, last, answer);
         }
         self.step_admitted(book, rows, last, message)
@@ -189,7 +189,8 @@ impl Handshake {
     {
         match reconstructor_checks::own_checks(top, book, rows, lent) {
             Err(why) => {
-                self.unchanged(book, last, StepAnswer::Stepped(ApplyAnswer::Unusable(why)))
+                let answer = StepAnswer::Stepped(Err(ApplyError::Unusable(why)));
+                self.unchanged(book, last, answer)
             }
             Ok(()) => self.step_trusted(book, rows, last, message),
         }

@@ -6,7 +6,7 @@ ghost use Rattle.reconstructor_handshake_rules.specs.Answers.{ends, applied_by};
 ghost use Rattle.reconstructor_handshake_rules.specs.Drops.{drops};
 
 use message::{L3Message, ProductId};
-use reconstructor_answers::ApplyAnswer;
+use reconstructor_answers::{Applied, ApplyError};
 
 // Whether the snapshot already has a message.
 pub fn drops(product: ProductId, start_seq: u64, message: L3Message) -> bool
@@ -17,31 +17,26 @@ pub fn drops(product: ProductId, start_seq: u64, message: L3Message) -> bool
 }
 
 // Whether an answer of `apply` ends the handshake: 16 and 17 do.
-pub fn ends(answer: ApplyAnswer) -> bool
+pub fn ends(answer: Result<Applied, ApplyError>) -> bool
     ensures { result ≡ ends answer }
 {
     match answer {
-        ApplyAnswer::Applied(_) => false,
-        ApplyAnswer::Unusable(_) => false,
-        ApplyAnswer::AmountOutOfRange => false,
-        ApplyAnswer::WrongProduct => false,
-        ApplyAnswer::NotBootstrapped => false,
-        ApplyAnswer::Invalidated(_) => true,
-        ApplyAnswer::AwaitingSnapshot(_) => true,
+        Ok(_) => false,
+        Err(ApplyError::Unusable(_)) => false,
+        Err(ApplyError::AmountOutOfRange) => false,
+        Err(ApplyError::WrongProduct) => false,
+        Err(ApplyError::NotBootstrapped) => false,
+        Err(ApplyError::Invalidated(_)) => true,
+        Err(ApplyError::AwaitingSnapshot(_)) => true,
     }
 }
 
 // The number applied, once an answer is in.
-pub fn applied_by(applied: u64, answer: ApplyAnswer) -> u64
+pub fn applied_by(applied: u64, answer: Result<Applied, ApplyError>) -> u64
     ensures { result ≡ applied_by applied answer }
 {
     match answer {
-        ApplyAnswer::Applied(_) => reconstructor_counts::saturating_next(applied),
-        ApplyAnswer::Unusable(_) => applied,
-        ApplyAnswer::AmountOutOfRange => applied,
-        ApplyAnswer::WrongProduct => applied,
-        ApplyAnswer::NotBootstrapped => applied,
-        ApplyAnswer::Invalidated(_) => applied,
-        ApplyAnswer::AwaitingSnapshot(_) => applied,
+        Ok(_) => reconstructor_counts::saturating_next(applied),
+        Err(_) => applied,
     }
 }

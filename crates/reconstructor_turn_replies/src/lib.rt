@@ -5,7 +5,7 @@ ghost use Rattle.std.specs.Prelude.{◌≡◌};
 ghost use Rattle.reconstructor.specs.Applied.{invalidated_reply, accepted_reply};
 
 use reconstructor::Reply;
-use reconstructor_answers::{Applied, ApplyAnswer, Invalidation, InvalidationKind};
+use reconstructor_answers::{Applied, ApplyError, Invalidation, InvalidationKind};
 use reconstructor_counts::Counter;
 use reconstructor_state::{BookReconstructor, Status};
 
@@ -20,7 +20,7 @@ pub fn invalidated(book: BookReconstructor, last: u64, seq: u64, kind: Invalidat
     };
     Reply {
         book: book.with_status(Status::Invalidated(invalidation)),
-        answer: ApplyAnswer::Invalidated(invalidation),
+        answer: Err(ApplyError::Invalidated(invalidation)),
     }
 }
 
@@ -39,6 +39,6 @@ pub fn accepted(
     next.rows = rows;
     Reply {
         book: next,
-        answer: ApplyAnswer::Applied(applied),
+        answer: Ok(applied),
     }
 }
