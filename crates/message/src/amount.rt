@@ -6,7 +6,7 @@ ghost use Rattle.message.specs.Amounts.{nat_of, negative, differs, given_differs
 pub fn size_of(x: i64) -> u64
     ensures { result ≡ nat_of x }
 {
-    if 0 < x { x as u64 } else { 0 }
+    u64::try_from(x).unwrap_or(0)
 }
 
 pub fn is_negative(x: i64) -> bool
@@ -16,31 +16,25 @@ pub fn is_negative(x: i64) -> bool
 }
 
 // Whether an amount is another number than `m`.
+#[tactic(auto, unfolding(crate::specs::Amounts::differs))]
 pub fn differs(x: i64, m: u64) -> bool
     ensures { result ≡ differs x m }
 {
-    if is_negative(x) {
-        return true;
-    }
-    size_of(x) != m
+    is_negative(x) || size_of(x) != m
 }
 
 // Whether an amount is given and differs.
+#[tactic(auto, unfolding(crate::specs::Amounts::given_differs))]
 pub fn given_differs(x: Option<i64>, m: u64) -> bool
     ensures { result ≡ given_differs x m }
 {
-    match x {
-        None => false,
-        Some(a) => differs(a, m),
-    }
+    x.is_some_and(|a| differs(a, m))
 }
 
 // Whether an amount is absent, or differs.
+#[tactic(auto, unfolding(crate::specs::Amounts::absent_or_differs))]
 pub fn absent_or_differs(x: Option<i64>, m: u64) -> bool
     ensures { result ≡ absent_or_differs x m }
 {
-    match x {
-        None => true,
-        Some(a) => differs(a, m),
-    }
+    x.is_none_or(|a| differs(a, m))
 }

@@ -7,14 +7,14 @@ ghost use Rattle.message.specs.Same.{same_side, same_id, same_product};
 pub mod amount; // amount.rt: tests on amounts
 
 // The side of an order. On a match it is the maker's side.
-#[derive(Clone, Copy)]
+#[derive(Clone, Copy, PartialEq, Eq)]
 pub enum L3Side {
     Buy,
     Sell,
 }
 
 // Why an order's lifecycle ended.
-#[derive(Clone, Copy)]
+#[derive(Clone, Copy, PartialEq, Eq)]
 pub enum DoneReason {
     // Filled: its remaining size is 0.
     Filled,
@@ -23,7 +23,7 @@ pub enum DoneReason {
 }
 
 // Why an order changed.
-#[derive(Clone, Copy)]
+#[derive(Clone, Copy, PartialEq, Eq)]
 pub enum ChangeReason {
     // Self trade prevention: the size (or the funds of a market order) is reduced.
     Stp,
@@ -32,14 +32,14 @@ pub enum ChangeReason {
 }
 
 // An order id, 128 bits: its 16 bytes in text order, the first eight as the high word.
-#[derive(Clone, Copy)]
+#[derive(Clone, Copy, Default, PartialEq, Eq)]
 pub struct OrderId {
     pub high: u64,
     pub low: u64,
 }
 
 // A product, any 16 bytes: the first eight as the high word.
-#[derive(Clone, Copy)]
+#[derive(Clone, Copy, PartialEq, Eq)]
 pub struct ProductId {
     pub high: u64,
     pub low: u64,
@@ -116,7 +116,7 @@ pub struct L3Message {
 }
 
 // One resting order of a snapshot.
-#[derive(Clone, Copy)]
+#[derive(Clone, Copy, Default)]
 pub struct SnapshotOrder {
     pub order_id: OrderId,
     pub price: i64,
@@ -139,26 +139,19 @@ pub const AMOUNT_LIMIT: i64 = 1000000000000000;
 pub fn same_side(a: L3Side, b: L3Side) -> bool
     ensures { result ≡ same_side a b }
 {
-    match a {
-        L3Side::Buy => match b {
-            L3Side::Buy => true,
-            L3Side::Sell => false,
-        },
-        L3Side::Sell => match b {
-            L3Side::Buy => false,
-            L3Side::Sell => true,
-        },
-    }
+    a == b
 }
 
+#[tactic(auto, unfolding(crate::specs::Same::same_id))]
 pub fn same_id(a: OrderId, b: OrderId) -> bool
     ensures { result ≡ same_id a b }
 {
-    (a.high == b.high) & (a.low == b.low)
+    a == b
 }
 
+#[tactic(auto, unfolding(crate::specs::Same::same_product))]
 pub fn same_product(a: ProductId, b: ProductId) -> bool
     ensures { result ≡ same_product a b }
 {
-    (a.high == b.high) & (a.low == b.low)
+    a == b
 }
