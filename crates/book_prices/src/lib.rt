@@ -14,24 +14,10 @@ use message::L3Side;
 fn better(side: L3Side, price: u64, best: Option<u64>) -> Option<u64>
     ensures { result ≡ better side price best }
 {
-    let Some(other) = best else {
-        return Some(price);
-    };
-    match side {
-        L3Side::Buy => {
-            if other < price {
-                Some(price)
-            } else {
-                Some(other)
-            }
-        }
-        L3Side::Sell => {
-            if price < other {
-                Some(price)
-            } else {
-                Some(other)
-            }
-        }
+    match (side, best) {
+        (_, None) => Some(price),
+        (L3Side::Buy, Some(other)) => Some(price.max(other)),
+        (L3Side::Sell, Some(other)) => Some(price.min(other)),
     }
 }
 
@@ -52,9 +38,7 @@ pub fn best(rows: &[u64], n: usize, side: L3Side) -> Option<u64>
     ensures { result ≡ best side (line_of (rows_of rows.now n)) }
 {
     let mut best = None;
-    let mut i = n;
-    while 0 < i {
-        i -= 1;
+    for i in (0..n).rev() {
         best = best_with(side, book::get_row(rows, i), best);
     }
     best
@@ -78,13 +62,10 @@ pub fn best_ask(rows: &[u64], n: usize) -> Option<u64>
 pub fn meet(bid: Option<u64>, ask: Option<u64>) -> bool
     ensures { result ≡ meet bid ask }
 {
-    let Some(b) = bid else {
-        return false;
-    };
-    let Some(a) = ask else {
-        return false;
-    };
-    a <= b
+    match (bid, ask) {
+        (Some(bid), Some(ask)) => ask <= bid,
+        _ => false,
+    }
 }
 
 // Whether an order at that side and price would cross the best of the other side.
