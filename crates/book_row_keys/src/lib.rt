@@ -15,7 +15,7 @@ pub enum KeyKind {
     LevelOf(L3Side),
 }
 
-#[derive(Clone, Copy)]
+#[derive(Clone, Copy, PartialEq, Eq)]
 pub struct Key {
     pub high: u64,
     pub low: u64,
@@ -55,5 +55,5 @@ pub fn key_of(o: Resting, kind: KeyKind) -> Key
 pub fn same_key(a: Key, b: Key) -> bool
     ensures { result ≡ same_key a b }
 {
-    (a.high == b.high) & (a.low == b.low)
+    a == b
 }
