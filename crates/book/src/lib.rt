@@ -63,6 +63,7 @@ pub fn set_row(rows: &mut [u64], i: usize, order: Resting)
 }
 
 // The side of a kind.
+#[tactic(auto, unfolding(crate::specs::Rows::side_of))]
 pub fn side_of(kind: u64) -> L3Side
     ensures { result ≡ side_of kind }
 {

@@ -25,7 +25,7 @@ fn better(side: L3Side, price: u64, best: Option<u64>) -> Option<u64>
 pub fn best_with(side: L3Side, o: Resting, best: Option<u64>) -> Option<u64>
     ensures { result ≡ cond (same_side (side_of o.kind) side) (better side o.price best) best }
 {
-    if message::same_side(book::side_of(o.kind), side) {
+    if book::side_of(o.kind) == side {
         better(side, o.price, best)
     } else {
         best

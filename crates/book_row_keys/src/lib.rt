@@ -25,7 +25,7 @@ pub struct Key {
 fn side_key(o: Resting, side: L3Side) -> Key
     ensures { result ≡ key_of (KeyKind.LevelOf side) o }
 {
-    if message::same_side(book::side_of(o.kind), side) {
+    if book::side_of(o.kind) == side {
         Key {
             high: 1,
             low: o.price,

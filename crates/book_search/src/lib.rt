@@ -10,16 +10,15 @@ use book::Resting;
 use message::{L3Side, OrderId};
 
 // Whether an order has the id.
+#[tactic(auto, unfolding(message::specs::Same::same_id))]
 pub fn has_id(o: Resting, id: OrderId) -> bool
     ensures { result ≡ same_id (id_of o) id }
 {
-    message::same_id(
-        OrderId {
-            high: o.high,
-            low: o.low,
-        },
-        id,
-    )
+    let own = OrderId {
+        high: o.high,
+        low: o.low,
+    };
+    own == id
 }
 
 // The first of `n` rows with the id.
@@ -34,7 +33,7 @@ pub fn find(rows: &[u64], n: usize, id: OrderId) -> Option<usize>
 pub fn on_level(o: Resting, side: L3Side, price: u64) -> bool
     ensures { result ≡ same_level (side_of o.kind) o.price side price }
 {
-    message::same_side(book::side_of(o.kind), side) & (o.price == price)
+    (book::side_of(o.kind) == side) & (o.price == price)
 }
 
 // Whether one of `n` rows rests at a side and price.
