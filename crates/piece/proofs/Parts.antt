@@ -1,13 +1,13 @@
 -- Parts of a list of bytes, and the numbers in them.
 -- Assumes nothing.
-use Prim.Native.Nat.{ℕ, suc, ◌+◌, ◌*◌, ◌^◌, ◌≤◌, ◌<◌}
-use native.Mathlib.Nat.{pow-succ', mul_assoc}
+use Prim.Native.Nat.{ℕ, suc, ◌+◌, ◌≤◌, ◌<◌}
 use native.Mathlib.Numerals.{add-one}
 use native.Mathlib.Omega.{arith}
 use mathlib.Core.Path.{◌≡◌, ap, ◌∙◌}
-use mathlib.Core.List.{List, [], ◌∷◌, ◌++◌, reverse, reverse-append}
-use lib.ListN.{length, get_or, take, drop, length-drop, length-reverse}
+use mathlib.Core.List.{List, [], ◌∷◌, ◌++◌}
+use lib.ListN.{length, get_or, take, drop, length-drop}
 use lib.Seq.{drop-cons, drop-drop, take-add, length-take-le}
+use Rattle.std.specs.Int.{w32, w64, from_le_bytes, from_be_bytes}
 use Rattle.piece.specs.Bytes.{part, little, big}
 
 pub part_cons : (s : List ℕ) (i k : ℕ) → i < length s → part s i (suc k) ≡ get_or s i 0 ∷ part s (i + 1) k
@@ -36,27 +36,22 @@ pub part_length : (s : List ℕ) (i k : ℕ) → i + k ≤ length s → length (
 unfolding part
 part_length s i k h = length-take-le k (drop i s) (rw length-drop (omega arith))
 
-pub little_append : (a b : List ℕ) → little (a ++ b) ≡ little a + 256 ^ length a * little b
+part_eight : (s : List ℕ) (i : ℕ) → i + 8 ≤ length s →
+    part s i 8 ≡
+    (get_or s i 0 ∷ get_or s (i + 1) 0 ∷ get_or s (i + 2) 0 ∷ get_or s (i + 3) 0 ∷ []) ++
+    (get_or s (i + 4) 0 ∷ get_or s (i + 4 + 1) 0 ∷ get_or s (i + 4 + 2) 0 ∷ get_or s (i + 4 + 3) 0 ∷ [])
+part_eight s i h = rw (part_join s i 4 4, part_four s i (omega arith), part_four s (i + 4) (omega arith))
+
+-- ---- the number in a part, as std reads it from an array
+
+pub little_four : (s : List ℕ) (i : ℕ) → i + 4 ≤ length s → from_le_bytes w32 (part s i 4) ≡ little (part s i 4)
 unfolding little
-little_append [] b = omega arith
-little_append (x ∷ a) b =
-    rw (little_append a b, pow-succ' 256 (length a), mul_assoc 256 (256 ^ length a) (little b)) (omega arith)
+little_four s i h = rw (part_four s i h) (omega arith)
 
--- the number in eight bytes, by those in its two halves
-pub little-halves : (s : List ℕ) (i : ℕ) → i + 8 ≤ length s →
-    little (part s i 8) ≡ little (part s i 4) + 4294967296 * little (part s (i + 4) 4)
-little-halves s i h =
-    ap little (part_join s i 4 4) ∙
-    little_append (part s i 4) (part s (i + 4) 4) ∙
-    ap (λ n. little (part s i 4) + 256 ^ n * little (part s (i + 4) 4)) (part_length s i 4 (omega arith))
+pub little_eight : (s : List ℕ) (i : ℕ) → i + 8 ≤ length s → from_le_bytes w64 (part s i 8) ≡ little (part s i 8)
+unfolding little
+little_eight s i h = rw (part_eight s i h) (omega arith)
 
-pub big-halves : (s : List ℕ) (i : ℕ) → i + 8 ≤ length s →
-    big (part s i 8) ≡ 4294967296 * big (part s i 4) + big (part s (i + 4) 4)
-unfolding big
-big-halves s i h =
-    ap (λ l. little (reverse l)) (part_join s i 4 4) ∙
-    ap little (reverse-append (part s i 4) (part s (i + 4) 4)) ∙
-    little_append (reverse (part s (i + 4) 4)) (reverse (part s i 4)) ∙
-    ap (λ n. little (reverse (part s (i + 4) 4)) + 256 ^ n * little (reverse (part s i 4)))
-    (length-reverse (part s (i + 4) 4) ∙ part_length s (i + 4) 4 (omega arith)) ∙
-    omega arith
+pub big_eight : (s : List ℕ) (i : ℕ) → i + 8 ≤ length s → from_be_bytes w64 (part s i 8) ≡ big (part s i 8)
+unfolding little big
+big_eight s i h = rw (part_eight s i h) (omega arith)
