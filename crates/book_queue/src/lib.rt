@@ -33,7 +33,7 @@ pub fn width(form: EntryForm) -> usize
 fn observed(o: Resting) -> u64
     ensures { result ≡ cond (ltb o.kind 2) 0 1 }
 {
-    if o.kind < 2 { 0 } else { 1 }
+    u64::from(o.kind >= 2)
 }
 
 // Where it entered, if that was observed, else 0.
@@ -48,13 +48,8 @@ fn put_queue_entry(out: &mut [u64], at: usize, o: Resting)
     requires { at + entry_width EntryForm.Queue ≤ length out.old }
     ensures { out.new ≡ take at out.old ++ entry_words EntryForm.Queue o ++ drop (at + entry_width EntryForm.Queue) out.old }
 {
-    let shown = observed(o);
-    let entered = observed_at(o);
-    out[at] = o.high;
-    out[at + 1] = o.low;
-    out[at + 2] = o.remaining;
-    out[at + 3] = shown;
-    out[at + 4] = entered;
+    let words = [o.high, o.low, o.remaining, observed(o), observed_at(o)];
+    out[at..at + QUEUE_WORDS].copy_from_slice(&words);
 }
 
 // Writes an entry of an ahead-list at `at`.
@@ -62,9 +57,8 @@ fn put_ahead_entry(out: &mut [u64], at: usize, o: Resting)
     requires { at + entry_width EntryForm.Ahead ≤ length out.old }
     ensures { out.new ≡ take at out.old ++ entry_words EntryForm.Ahead o ++ drop (at + entry_width EntryForm.Ahead) out.old }
 {
-    out[at] = o.high;
-    out[at + 1] = o.low;
-    out[at + 2] = o.entered_at;
+    let words = [o.high, o.low, o.entered_at];
+    out[at..at + AHEAD_ENTRY_WORDS].copy_from_slice(&words);
 }
 
 // Writes an entry at `at`.
