@@ -16,7 +16,8 @@ use Rattle.book.specs.declared.Resting.{Resting}
 use Rattle.book.specs.Line.{queue}
 use Rattle.book.specs.Rows.{rows_of, line_of}
 use Rattle.book.specs.Memory.{Memory, Extent, orders_of, line_in, front}
-use Rattle.book_levels.specs.Levels.{prices, written, zeroed}
+use Rattle.book_scratch.specs.Scratch.{zeroed}
+use Rattle.book_levels.specs.Levels.{prices, written}
 use Rattle.book_levels.proofs.Writing.{length-levels}
 use Rattle.book_queue.specs.declared.EntryForm.TheVariants.{Queue}
 use Rattle.book_queue.specs.Queue.{rows_at}

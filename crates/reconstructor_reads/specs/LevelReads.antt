@@ -5,7 +5,8 @@ use Rattle.message.specs.Amounts.{nat_of}
 use Rattle.book.specs.declared.Resting.{Resting}
 use Rattle.book.specs.Rows.{line_of}
 use Rattle.book.specs.Memory.{Memory, orders_of}
-use Rattle.book_levels.specs.Levels.{prices, levels_words, written, zeroed}
+use Rattle.book_scratch.specs.Scratch.{zeroed}
+use Rattle.book_levels.specs.Levels.{prices, levels_words, written}
 use Rattle.book_queue.specs.declared.EntryForm.TheVariants.{Queue}
 use Rattle.book_queue.specs.Queue.{rows_at, entry_width, entries_words}
 use Rattle.reconstructor_state.specs.declared.Status.{Status}

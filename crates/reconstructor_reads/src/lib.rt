@@ -58,7 +58,7 @@ pub fn show_queue(
         return Shown::OutputTooSmall;
     }
     book_orders::write_orders(rows, n, side, price, EntryForm::Queue, out);
-    book_walk::clear(scratch, max_orders);
+    book_scratch::clear(scratch, max_orders);
     Shown::Entries(count)
 }
 

@@ -1,10 +1,8 @@
 -- From the last row to the first: the level of the rows behind, with one row more, is the level of one row more (`level-next`). Each sum stays small, since
 -- every row is sound and there are few.
 use Prim.Native.Nat.{◌-◌}
-use mathlib.Core.Path.{◌≡◌, ◌∙◌, sym}
-use native.Mathlib.Nat.{sub-zero}
+use mathlib.Core.Path.{sym}
 use native.Mathlib.Omega.{arith}
-use borrow.Author.Rules.{rules}
 use Rattle.laws.proofs.Bools.{or_no}
 use Rattle.book.specs.Rows.{rows_from}
 use Rattle.book.specs.Broken.{row_broken, some_row_broken}
@@ -14,19 +12,16 @@ use Rattle.book_levels.proofs.Totals.{level-next, small-from}
 use Rattle.book_levels.proofs.level_at.Goals as goal
 
 pub loop-i-init : goal.loop-i-init
-loop-i-init c = (search rules, rw (rows-done c.args.rows.now c.args.n c.args.n (omega arith)))
+loop-i-init c = rw (rows-done c.args.rows.now c.args.n c.args.n (omega arith))
 
 pub level_with-level-requires : goal.level_with-level-requires
 level_with-level-requires c =
-    let v = small-from c.args.rows.now c.args.n c.loop-i.i c.args.side c.args.price c.requires.0.few c.loop-i.invariant.0 c.requires.1 in
-    let here = rows_prev c.args.rows.now c.args.n c.loop-i.i (c.loop-i.i - 1) c.get_row.result (omega arith) c.loop-i.invariant.0 c.get_row.ensures in
+    let v = small-from c.args.rows.now c.args.n c.loop-i.i c.args.side c.args.price c.requires.0.few c.loop-i.auto.i c.requires.1 in
+    let here = rows_prev c.args.rows.now c.args.n c.loop-i.i (c.loop-i.i - 1) c.get_row.result (omega arith) c.loop-i.auto.i c.get_row.ensures in
     let q = sound-from c.args.rows.now c.args.n (c.loop-i.i - 1) (omega arith) c.requires.1 in
     let d = or_no (row_broken c.get_row.result) (some_row_broken (rows_from c.args.rows.now c.loop-i.i (c.args.n - c.loop-i.i))) (rw here at q) in
     let o = sound_row c.get_row.result d.0 in
-    rw c.loop-i.invariant.1 (o.remaining.high, (v.total, (v.unknown, v.orders)))
+    rw c.loop-i.invariant (o.remaining.high, (v.total, (v.unknown, v.orders)))
 
 pub loop-i-preserved : goal.loop-i-preserved
-loop-i-preserved c = (omega arith, rw (c.level_with-level.ensures, rows_prev c.args.rows.now c.args.n c.loop-i.i (c.loop-i.i - 1) c.get_row.result (omega arith) c.loop-i.invariant.0 c.get_row.ensures, c.loop-i.invariant.1) (sym (level-next c.args.side c.args.price c.get_row.result (rows_from c.args.rows.now c.loop-i.i (c.args.n - c.loop-i.i)))))
-
-pub returns : goal.returns
-returns c = let z : c.loop-i.i ≡ 0 = omega arith in c.loop-i.invariant.1 ∙ rw (z, sub-zero)
+loop-i-preserved c = rw (c.level_with-level.ensures, rows_prev c.args.rows.now c.args.n c.loop-i.i (c.loop-i.i - 1) c.get_row.result (omega arith) c.loop-i.auto.i c.get_row.ensures, c.loop-i.invariant) (sym (level-next c.args.side c.args.price c.get_row.result (rows_from c.args.rows.now c.loop-i.i (c.args.n - c.loop-i.i))))
