@@ -11,12 +11,14 @@ use piece::{
 };
 
 // The event where the bytes have its shape.
+#[tactic(auto, unfolding(piece::specs::Piece::event_if))]
 pub fn event_if(shaped: bool, event: L3Event) -> Option<L3Event>
     ensures { result ≡ event_if shaped event }
 {
-    if shaped { Some(event) } else { None }
+    shaped.then_some(event)
 }
 
+#[tactic(auto, unfolding(piece::specs::Piece::read_received, piece::specs::Piece::event_if))]
 pub fn read_received(s: &[u8]) -> Option<L3Event>
     ensures { result ≡ read_received s.now }
 {
@@ -33,6 +35,7 @@ pub fn read_received(s: &[u8]) -> Option<L3Event>
     )
 }
 
+#[tactic(auto, unfolding(piece::specs::Piece::read_open, piece::specs::Piece::event_if))]
 pub fn read_open(s: &[u8]) -> Option<L3Event>
     ensures { result ≡ read_open s.now }
 {
@@ -51,6 +54,7 @@ pub fn read_open(s: &[u8]) -> Option<L3Event>
     )
 }
 
+#[tactic(auto, unfolding(piece::specs::Piece::done_shaped))]
 fn done_shaped(s: &[u8]) -> bool
     requires { length s.now ≡ 68 }
     ensures { result ≡ done_shaped s.now }
@@ -63,6 +67,7 @@ fn done_shaped(s: &[u8]) -> bool
         & zero_unless(s, has_bit(presence, 2), 60)
 }
 
+#[tactic(auto, unfolding(piece::specs::Piece::read_done, piece::specs::Piece::event_if))]
 pub fn read_done(s: &[u8]) -> Option<L3Event>
     ensures { result ≡ read_done s.now }
 {
@@ -82,6 +87,7 @@ pub fn read_done(s: &[u8]) -> Option<L3Event>
     )
 }
 
+#[tactic(auto, unfolding(piece::specs::Piece::read_match, piece::specs::Piece::event_if))]
 pub fn read_match(s: &[u8]) -> Option<L3Event>
     ensures { result ≡ read_match s.now }
 {
@@ -101,6 +107,7 @@ pub fn read_match(s: &[u8]) -> Option<L3Event>
     )
 }
 
+#[tactic(auto, unfolding(piece::specs::Piece::read_unsupported, piece::specs::Piece::event_if))]
 pub fn read_unsupported(s: &[u8]) -> Option<L3Event>
     ensures { result ≡ read_unsupported s.now }
 {
