@@ -4,6 +4,7 @@
 
 ghost use Rattle.std.specs.Prelude.{◌≡◌};
 ghost use Rattle.queue.specs.Numbers.{queue_error_number};
+ghost use Rattle.queue.specs.declared.QueueError.TheVariants.{View};
 
 use message::{L3Side, OrderId};
 use reconstructor_segments::SegmentName;
@@ -74,6 +75,14 @@ pub struct Tally {
     pub observed: u64,
     pub orders: usize,
     pub decreased: bool,
+}
+
+impl From<ViewError> for QueueError {
+    ghost from_gives = { λ why e. e ≡ View why };
+
+    fn from(why: ViewError) -> QueueError {
+        QueueError::View(why)
+    }
 }
 
 impl QueueError {

@@ -175,17 +175,13 @@ pub fn volume_ahead_under(
     requires { top ≤ most_rows }
     ensures { result ≡ volume_ahead top book (memory rows.now) estimate ahead.now }
 {
-    match reconstructor_view::valid_book(top, book, rows, false) {
-        Err(why) => Err(QueueError::View(why)),
-        Ok(last_seq) => {
-            let anchor = estimate.anchor;
-            if list_short(anchor, ahead.len()) {
-                return Err(QueueError::AheadListShort);
-            }
-            if is_stale(book, estimate) {
-                return Err(QueueError::StaleEstimate);
-            }
-            anchor_ahead(book, rows, estimate, ahead, last_seq)
-        }
+    let last_seq = reconstructor_view::valid_book(top, book, rows, false)?;
+    let anchor = estimate.anchor;
+    if list_short(anchor, ahead.len()) {
+        return Err(QueueError::AheadListShort);
     }
+    if is_stale(book, estimate) {
+        return Err(QueueError::StaleEstimate);
+    }
+    anchor_ahead(book, rows, estimate, ahead, last_seq)
 }

@@ -40,23 +40,19 @@ pub fn queue_estimate_under(
 {
     let n = book.rows;
     let at = message::amount::size_of(price);
-    match reconstructor_view::valid_book(top, book, rows, false) {
-        Err(why) => Err(QueueError::View(why)),
-        Ok(last_seq) => {
-            let orders = book_orders::order_count(rows, n, side, at);
-            if ahead.len() < AHEAD_ENTRY_WORDS * orders {
-                return Err(QueueError::OutputTooSmall);
-            }
-            book_orders::write_orders(rows, n, side, at, EntryForm::Ahead, ahead);
-            Ok(QueueEstimate {
-                side,
-                price,
-                segment: book.segment_name(),
-                anchor: Anchor::Hypothetical {
-                    orders,
-                    created_at: last_seq,
-                },
-            })
-        }
+    let last_seq = reconstructor_view::valid_book(top, book, rows, false)?;
+    let orders = book_orders::order_count(rows, n, side, at);
+    if ahead.len() < AHEAD_ENTRY_WORDS * orders {
+        return Err(QueueError::OutputTooSmall);
     }
+    book_orders::write_orders(rows, n, side, at, EntryForm::Ahead, ahead);
+    Ok(QueueEstimate {
+        side,
+        price,
+        segment: book.segment_name(),
+        anchor: Anchor::Hypothetical {
+            orders,
+            created_at: last_seq,
+        },
+    })
 }

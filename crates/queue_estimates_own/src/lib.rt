@@ -54,16 +54,10 @@ pub fn queue_estimate_own_under(
 {
     let rules = book.rules;
     let rule = rules.size_decrease;
-    match reconstructor_view::valid_book(top, book, rows, false) {
-        Err(why) => Err(QueueError::View(why)),
-        Ok(_) => {
-            let Some(o) = resting(rows, book.rows, order_id) else {
-                return Err(QueueError::NotResting);
-            };
-            if place_unknown(rule, o) {
-                return Err(QueueError::PriorityUnknown);
-            }
-            Ok(own_estimate(book, order_id, o))
-        }
+    let _last_seq = reconstructor_view::valid_book(top, book, rows, false)?;
+    let order = resting(rows, book.rows, order_id).ok_or(QueueError::NotResting)?;
+    if place_unknown(rule, order) {
+        return Err(QueueError::PriorityUnknown);
     }
+    Ok(own_estimate(book, order_id, order))
 }

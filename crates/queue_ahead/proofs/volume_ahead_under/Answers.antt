@@ -1,4 +1,5 @@
 -- The tests of the code are those of `ahead_refusal`, in its order; past them the rows are lent and sound, and the list is long enough.
+use Rattle.std.proofs.lemmas.Result.{err_from_is_err_and}
 use mathlib.Core.Path.{◌∙◌, sym, ap}
 use mathlib.Core.Bool.{false}
 use Rattle.book.specs.Memory.{memory, orders_of}
@@ -12,32 +13,33 @@ pub returns-then-list_short : goal.returns-then-list_short
 unfolding ahead_refusal ahead_of check first
 returns-then-list_short c =
     let a = c.args in
-    let v = found-valid a.top a.book (memory a.rows.now) false _ c.valid_book.ensures _ c.in-Ok.is in
+    let v = found-valid a.top a.book (memory a.rows.now) false _ c.valid_book.ensures _ c.in_ok-last_seq.was in
     rw (v.0, ← c.list_short.ensures, c.if-list_short.true)
 
 pub returns-then-is_stale : goal.returns-then-is_stale
 unfolding ahead_refusal ahead_of check first
 returns-then-is_stale c =
     let a = c.args in
-    let v = found-valid a.top a.book (memory a.rows.now) false _ c.valid_book.ensures _ c.in-Ok.is in
+    let v = found-valid a.top a.book (memory a.rows.now) false _ c.valid_book.ensures _ c.in_ok-last_seq.was in
     rw (v.0, ← c.list_short.ensures, c.if-list_short.false, ← c.is_stale.ensures, c.if-is_stale.true)
 
 pub anchor_ahead-requires : goal.anchor_ahead-requires
 anchor_ahead-requires c =
     let a = c.args in
     let m = memory a.rows.now in
-    let v = found-valid a.top a.book m false _ c.valid_book.ensures _ c.in-Ok.is in
+    let v = found-valid a.top a.book m false _ c.valid_book.ensures _ c.in_ok-last_seq.was in
     record { lent = (rows-ready a.top a.book m c.requires v.2.trusted, (sound a.book m v.2.trusted.sound).formed.sound); ahead_value = sym c.list_short.ensures ∙ c.if-list_short.false }
 
-pub returns-in-Err : goal.returns-in-Err
+pub returns-in_err-last_seq : goal.returns-in_err-last_seq
 unfolding ahead_refusal ahead_of check first
-returns-in-Err c =
+returns-in_err-last_seq c =
     let a = c.args in
-    rw (refused-for a.top a.book (memory a.rows.now) false _ c.valid_book.ensures _ c.in-Err.is)
+    let p = err_from_is_err_and c.from_residual.result c.from_residual.ensures.1 in
+    rw (p.1, p.2, refused-for a.top a.book (memory a.rows.now) false _ c.valid_book.ensures _ c.in_err-last_seq.was)
 
 pub returns-else-is_stale : goal.returns-else-is_stale
 unfolding ahead_refusal ahead_of check first
 returns-else-is_stale c =
     let a = c.args in
-    let v = found-valid a.top a.book (memory a.rows.now) false _ c.valid_book.ensures _ c.in-Ok.is in
+    let v = found-valid a.top a.book (memory a.rows.now) false _ c.valid_book.ensures _ c.in_ok-last_seq.was in
     rw (v.0, ← c.list_short.ensures, c.if-list_short.false, ← c.is_stale.ensures, c.if-is_stale.false) (c.anchor_ahead.ensures ∙ ap (λ t. anchor_ahead a.book.rules.size_decrease t a.estimate a.estimate.anchor a.ahead.now (orders_of (memory a.rows.now) a.book.rows)) v.1)

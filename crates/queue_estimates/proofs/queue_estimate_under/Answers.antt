@@ -1,4 +1,5 @@
 -- Where `valid_book` answers a sequence, the rows are lent. The orders counted are the entries, three words each; so the code's 7 is the definition's.
+use Rattle.std.proofs.lemmas.Result.{err_from_is_err_and}
 use mathlib.Core.Path.{◌≡◌, sym}
 use mathlib.Core.Bool.{false}
 use native.Mathlib.Omega.{arith}
@@ -19,14 +20,14 @@ pub order_count-orders-requires : goal.order_count-orders-requires
 order_count-orders-requires c =
     let a = c.args in
     let m = memory a.rows.now in
-    let v = found-valid a.top a.book m false _ c.valid_book.ensures _ c.in-Ok.is in
+    let v = found-valid a.top a.book m false _ c.valid_book.ensures _ c.in_ok-last_seq.was in
     rows-ready a.top a.book m c.requires v.2.trusted
 
 pub returns-then-ahead-orders : goal.returns-then-ahead-orders
 unfolding estimated
 returns-then-ahead-orders c =
     let a = c.args in
-    let v = found-valid a.top a.book (memory a.rows.now) false _ c.valid_book.ensures _ c.in-Ok.is in
+    let v = found-valid a.top a.book (memory a.rows.now) false _ c.valid_book.ensures _ c.in_ok-last_seq.was in
     let os = rows_at a.side c.size_of-at.result (orders_of (memory a.rows.now) a.book.rows) in
     let e : length os ≡ c.order_count-orders.result = sym c.order_count-orders.ensures in
     let z = sized a.price c.size_of-at.ensures c.ranges.price in
@@ -36,21 +37,22 @@ pub write_orders-requires : goal.write_orders-requires
 write_orders-requires c =
     let a = c.args in
     let m = memory a.rows.now in
-    let v = found-valid a.top a.book m false _ c.valid_book.ensures _ c.in-Ok.is in
+    let v = found-valid a.top a.book m false _ c.valid_book.ensures _ c.in_ok-last_seq.was in
     let os = rows_at a.side c.size_of-at.result (orders_of m a.book.rows) in
     (rows-ready a.top a.book m c.requires v.2.trusted, omega (arith, width-entries Ahead os, c.order_count-orders.ensures, c.if-ahead-orders.false))
 
-pub returns-in-Err : goal.returns-in-Err
+pub returns-in_err-last_seq : goal.returns-in_err-last_seq
 unfolding estimated
-returns-in-Err c =
+returns-in_err-last_seq c =
     let a = c.args in
-    rw (refused-for a.top a.book (memory a.rows.now) false _ c.valid_book.ensures _ c.in-Err.is)
+    let p = err_from_is_err_and c.from_residual.result c.from_residual.ensures.1 in
+    rw (p.1, p.2, refused-for a.top a.book (memory a.rows.now) false _ c.valid_book.ensures _ c.in_err-last_seq.was)
 
 pub returns-else-ahead-orders : goal.returns-else-ahead-orders
 unfolding estimated
 returns-else-ahead-orders c =
     let a = c.args in
-    let v = found-valid a.top a.book (memory a.rows.now) false _ c.valid_book.ensures _ c.in-Ok.is in
+    let v = found-valid a.top a.book (memory a.rows.now) false _ c.valid_book.ensures _ c.in_ok-last_seq.was in
     let os = rows_at a.side c.size_of-at.result (orders_of (memory a.rows.now) a.book.rows) in
     let e : length os ≡ c.order_count-orders.result = sym c.order_count-orders.ensures in
     let z = sized a.price c.size_of-at.ensures c.ranges.price in
@@ -60,6 +62,6 @@ pub overflow_mul-orders : goal.overflow_mul-orders
 overflow_mul-orders c =
     let a = c.args in
     let m = memory a.rows.now in
-    let v = found-valid a.top a.book m false _ c.valid_book.ensures _ c.in-Ok.is in
+    let v = found-valid a.top a.book m false _ c.valid_book.ensures _ c.in_ok-last_seq.was in
     let l = rows-ready a.top a.book m c.requires v.2.trusted in
     record { fits = omega (arith, c.order_count-orders.ensures, at_most a.side c.size_of-at.result (orders_of m a.book.rows), length-rows a.rows.now 0 a.book.rows, l.few) }

@@ -1,4 +1,5 @@
 -- Where `valid_book` answers a sequence, the rows are lent and sound: the own order is looked up, and its price fits an amount.
+use Rattle.std.proofs.lemmas.Result.{err_from_is_err_and}
 use mathlib.Core.Bool.{false}
 use Rattle.book.specs.Memory.{memory, orders_of}
 use Rattle.reconstructor_checks.proofs.StateChecks.{sound, rows-ready}
@@ -11,14 +12,14 @@ pub resting-requires : goal.resting-requires
 resting-requires c =
     let a = c.args in
     let m = memory a.rows.now in
-    let v = found-valid a.top a.book m false _ c.valid_book.ensures _ c.in-Ok.is in
+    let v = found-valid a.top a.book m false _ c.valid_book.ensures _ c.in_ok-_last_seq.was in
     rows-ready a.top a.book m c.requires v.2.trusted
 
 pub returns-in_default : goal.returns-in_default
 unfolding own_viewed
 returns-in_default c =
     let a = c.args in
-    let v = found-valid a.top a.book (memory a.rows.now) false _ c.valid_book.ensures _ c.in-Ok.is in
+    let v = found-valid a.top a.book (memory a.rows.now) false _ c.valid_book.ensures _ c.in_ok-_last_seq.was in
     let w = rw c.in_default.is at c.resting.ensures in
     rw (v.0, w)
 
@@ -26,28 +27,29 @@ pub returns-then-place_unknown : goal.returns-then-place_unknown
 unfolding own_viewed
 returns-then-place_unknown c =
     let a = c.args in
-    let v = found-valid a.top a.book (memory a.rows.now) false _ c.valid_book.ensures _ c.in-Ok.is in
-    let w = rw c.in-Some.is at c.resting.ensures in
+    let v = found-valid a.top a.book (memory a.rows.now) false _ c.valid_book.ensures _ c.in_ok-_last_seq.was in
+    let w = rw c.in_ok-order.was at c.resting.ensures in
     rw (v.0, w, ← c.place_unknown.ensures, c.if-place_unknown.true)
 
 pub own_estimate-requires : goal.own_estimate-requires
 own_estimate-requires c =
     let a = c.args in
     let m = memory a.rows.now in
-    let v = found-valid a.top a.book m false _ c.valid_book.ensures _ c.in-Ok.is in
-    let w = rw c.in-Some.is at c.resting.ensures in
+    let v = found-valid a.top a.book m false _ c.valid_book.ensures _ c.in_ok-_last_seq.was in
+    let w = rw c.in_ok-order.was at c.resting.ensures in
     price_most _ (with-sound a.order_id (orders_of m a.book.rows) _ (sound a.book m v.2.trusted.sound).formed.sound w)
 
-pub returns-in-Err : goal.returns-in-Err
+pub returns-in_err-_last_seq : goal.returns-in_err-_last_seq
 unfolding own_viewed
-returns-in-Err c =
+returns-in_err-_last_seq c =
     let a = c.args in
-    rw (refused-for a.top a.book (memory a.rows.now) false _ c.valid_book.ensures _ c.in-Err.is)
+    let p = err_from_is_err_and c.from_residual.result c.from_residual.ensures.1 in
+    rw (p.1, p.2, refused-for a.top a.book (memory a.rows.now) false _ c.valid_book.ensures _ c.in_err-_last_seq.was)
 
 pub returns-else-place_unknown : goal.returns-else-place_unknown
 unfolding own_viewed
 returns-else-place_unknown c =
     let a = c.args in
-    let v = found-valid a.top a.book (memory a.rows.now) false _ c.valid_book.ensures _ c.in-Ok.is in
-    let w = rw c.in-Some.is at c.resting.ensures in
+    let v = found-valid a.top a.book (memory a.rows.now) false _ c.valid_book.ensures _ c.in_ok-_last_seq.was in
+    let w = rw c.in_ok-order.was at c.resting.ensures in
     rw (v.0, w, ← c.place_unknown.ensures, c.if-place_unknown.false, c.own_estimate.ensures)
