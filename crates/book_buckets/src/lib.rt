@@ -23,6 +23,7 @@ fn halves(x: u64) -> u64
 }
 
 // A number below 2^32 whose top bits depend on all of the key: a multiplication by the golden ratio times 2^32.
+#[tactic(auto, unfolding(crate::specs::Buckets::spread_of))]
 fn spread(key: Key) -> u64
     ensures { (result ≡ spread_of key) × (result < 4294967296) }
 {
@@ -42,7 +43,7 @@ pub fn bucket(key: Key, m: usize) -> usize
 pub fn row_of(x: u16) -> usize
     ensures { result ≡ x }
 {
-    x as usize
+    usize::from(x)
 }
 
 // Whether a row of the chain that starts at `first` has the key. A link is the number of rows from there to the end, 0 for none.
@@ -63,7 +64,7 @@ fn chain_has(
     let mut j = first;
     while 0 < j {
         let o = book::get_row(rows, n - j);
-        if book_row_keys::same_key(book_row_keys::key_of(o, kind), key) {
+        if book_row_keys::key_of(o, kind) == key {
             return true;
         }
         j = row_of(next[j - 1]);
@@ -79,8 +80,7 @@ fn count_in(rows: &[u64], n: usize, kind: KeyKind, heads: &mut [u16], next: &mut
 {
     let m = heads.len();
     let mut count: usize = 0;
-    let mut k: usize = 0;
-    while k < n {
+    for k in 0..n {
         let o = book::get_row(rows, n - (k + 1));
         let key = book_row_keys::key_of(o, kind);
         let b = bucket(key, m);
@@ -91,45 +91,18 @@ fn count_in(rows: &[u64], n: usize, kind: KeyKind, heads: &mut [u16], next: &mut
         }
         next[k] = link;
         heads[b] = (k + 1) as u16;
-        k += 1;
     }
     count
 }
 
-// The same with tables of its own.
-fn count_tiny(rows: &[u64], n: usize, kind: KeyKind) -> usize
-    requires { Lent rows.now n × (n ≤ 16) }
+// The same with tables of its own, of `N` entries.
+fn count_sized<const N: usize>(rows: &[u64], n: usize, kind: KeyKind) -> usize
+    requires lent { Lent rows.now n × (n ≤ N) }
+    requires size { (0 < N) × (N ≤ most_rows) }
     ensures { result ≡ count_keys (key_of kind) (rows_of rows.now n) }
 {
-    let mut heads = [0u16; TINY];
-    let mut next = [0u16; TINY];
-    count_in(rows, n, kind, &mut heads, &mut next)
-}
-
-fn count_small(rows: &[u64], n: usize, kind: KeyKind) -> usize
-    requires { Lent rows.now n × (n ≤ 128) }
-    ensures { result ≡ count_keys (key_of kind) (rows_of rows.now n) }
-{
-    let mut heads = [0u16; SMALL];
-    let mut next = [0u16; SMALL];
-    count_in(rows, n, kind, &mut heads, &mut next)
-}
-
-fn count_medium(rows: &[u64], n: usize, kind: KeyKind) -> usize
-    requires { Lent rows.now n × (n ≤ 512) }
-    ensures { result ≡ count_keys (key_of kind) (rows_of rows.now n) }
-{
-    let mut heads = [0u16; MEDIUM];
-    let mut next = [0u16; MEDIUM];
-    count_in(rows, n, kind, &mut heads, &mut next)
-}
-
-fn count_large(rows: &[u64], n: usize, kind: KeyKind) -> usize
-    requires { Lent rows.now n }
-    ensures { result ≡ count_keys (key_of kind) (rows_of rows.now n) }
-{
-    let mut heads = [0u16; book::MOST_ROWS];
-    let mut next = [0u16; book::MOST_ROWS];
+    let mut heads = [0u16; N];
+    let mut next = [0u16; N];
     count_in(rows, n, kind, &mut heads, &mut next)
 }
 
@@ -139,13 +112,13 @@ pub fn count_keys(rows: &[u64], n: usize, kind: KeyKind) -> usize
     ensures { result ≡ count_keys (key_of kind) (rows_of rows.now n) }
 {
     if n <= TINY {
-        return count_tiny(rows, n, kind);
+        return count_sized::<TINY>(rows, n, kind);
     }
     if n <= SMALL {
-        return count_small(rows, n, kind);
+        return count_sized::<SMALL>(rows, n, kind);
     }
     if n <= MEDIUM {
-        return count_medium(rows, n, kind);
+        return count_sized::<MEDIUM>(rows, n, kind);
     }
-    count_large(rows, n, kind)
+    count_sized::<{ book::MOST_ROWS }>(rows, n, kind)
 }

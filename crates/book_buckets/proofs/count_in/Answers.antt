@@ -11,56 +11,55 @@ use Rattle.book_buckets.proofs.count_in.Goals as goal
 use Rattle.book_buckets.proofs.count_in.Goals.{then-not-chain_has, else-not-chain_has}
 
 pub loop-k-init : goal.loop-k-init
-loop-k-init c = (
-  omega arith,
-  omega arith,
-  refl,
-  refl,
-  rw rest-none,
-  heads-none c.args.rows.now c.args.n c.args.kind (length c.args.heads.now) c.args.heads.now c.requires.empty (omega arith),
-  λ v h. absurd (omega (arith, h)),
-)
+loop-k-init c = record {
+  most = omega arith;
+  as_many = refl;
+  as_long = refl;
+  counted = rw rest-none;
+  headed = heads-none c.args.rows.now c.args.n c.args.kind (length c.args.heads.now) c.args.heads.now c.requires.empty (omega arith);
+  chained = λ v h. absurd (omega (arith, h));
+}
 
 pub chain_has-requires : goal.chain_has-requires
 chain_has-requires c =
-    let w = linked c.args.rows.now c.args.n c.args.kind (length c.args.heads.now) c.loop-k.heads c.loop-k.next c.loop-k.k c.bucket-b.result c.key_of-key.result c.loop-k-test.true
+    let w = linked c.args.rows.now c.args.n c.args.kind (length c.args.heads.now) c.loop-k.heads c.loop-k.next c.loop-k.k c.bucket-b.result c.key_of-key.result (omega arith)
     (c.key_of-key.ensures ∙ ap (key_of c.args.kind) c.get_row-o.ensures)
     c.bucket-b.ensures.0
     c.bucket-b.ensures.1
-    (omega (arith, c.loop-k.invariant.2))
-    (omega (arith, c.loop-k.invariant.3, c.requires.lent, c.loop-k-test.true))
-    c.loop-k.invariant.5
-    c.loop-k.invariant.6 in
+    (omega arith)
+    (omega arith)
+    c.loop-k.invariant.headed
+    c.loop-k.invariant.chained in
     rw c.row_of-first.ensures
     (record {
-      lent = (c.requires.lent.0, (omega (arith, w.within, c.loop-k-test.true), omega (arith, w.within, c.loop-k-test.true, c.loop-k.invariant.3, c.requires.lent)));
-      chained = λ v hv. c.loop-k.invariant.6 v (omega (arith, w.within));
+      lent = (c.requires.lent.0, (omega (arith, w.within), omega (arith, w.within)));
+      chained = λ v hv. c.loop-k.invariant.chained v (omega (arith, w.within));
       headed = w.headed;
     })
 
 pub loop-k-preserved : goal.loop-k-preserved
 loop-k-preserved c =
-    let w = linked c.args.rows.now c.args.n c.args.kind (length c.args.heads.now) c.loop-k.heads c.loop-k.next c.loop-k.k c.bucket-b.result c.key_of-key.result c.loop-k-test.true
+    let w = linked c.args.rows.now c.args.n c.args.kind (length c.args.heads.now) c.loop-k.heads c.loop-k.next c.loop-k.k c.bucket-b.result c.key_of-key.result (omega arith)
     (c.key_of-key.ensures ∙ ap (key_of c.args.kind) c.get_row-o.ensures)
     c.bucket-b.ensures.0
     c.bucket-b.ensures.1
-    (omega (arith, c.loop-k.invariant.2))
-    (omega (arith, c.loop-k.invariant.3, c.requires.lent, c.loop-k-test.true))
-    c.loop-k.invariant.5
-    c.loop-k.invariant.6 in
+    (omega arith)
+    (omega arith)
+    c.loop-k.invariant.headed
+    c.loop-k.invariant.chained in
     let has : c.chain_has.result ≡ has_key (key_of c.args.kind) c.key_of-key.result (rest_of c.args.rows.now c.args.n (get_or c.loop-k.heads c.bucket-b.result 0)) =
-    c.chain_has.ensures ∙ ap (λ y. has_key (key_of c.args.kind) c.key_of-key.result (rest_of c.args.rows.now c.args.n y)) c.row_of-first.ensures in (
-      omega arith,
-      elim c.if-not-chain_has.branch [ then-not-chain_has t ↦ omega arith | else-not-chain_has t ↦ omega arith ],
-      length-set c.loop-k.heads c.bucket-b.result (c.loop-k.k + 1) ∙ c.loop-k.invariant.2,
-      length-set c.loop-k.next c.loop-k.k (get_or c.loop-k.heads c.bucket-b.result 0) ∙ c.loop-k.invariant.3,
-      elim c.if-not-chain_has.branch [
-        | then-not-chain_has t ↦ omega (arith, c.loop-k.invariant.4, w.new (sym has ∙ t.if-not-chain_has.true))
-        | else-not-chain_has t ↦ omega (arith, c.loop-k.invariant.4, w.old (sym has ∙ t.if-not-chain_has.false))
-      ],
-      w.heads-then,
-      w.chained-then,
-    )
+    c.chain_has.ensures ∙ ap (λ y. has_key (key_of c.args.kind) c.key_of-key.result (rest_of c.args.rows.now c.args.n y)) c.row_of-first.ensures in
+    record {
+      most = elim c.if-not-chain_has.branch [ then-not-chain_has t ↦ omega arith | else-not-chain_has t ↦ omega arith ];
+      as_many = length-set c.loop-k.heads c.bucket-b.result (c.loop-k.k + 1) ∙ c.loop-k.invariant.as_many;
+      as_long = length-set c.loop-k.next c.loop-k.k (get_or c.loop-k.heads c.bucket-b.result 0) ∙ c.loop-k.invariant.as_long;
+      counted = elim c.if-not-chain_has.branch [
+        | then-not-chain_has t ↦ omega (arith, c.loop-k.invariant.counted, w.new (sym has ∙ t.if-not-chain_has.true))
+        | else-not-chain_has t ↦ omega (arith, c.loop-k.invariant.counted, w.old (sym has ∙ t.if-not-chain_has.false))
+      ];
+      headed = w.heads-then;
+      chained = w.chained-then;
+    }
 
 pub returns : goal.returns
-returns c = c.loop-k.invariant.4 ∙ rw (rest_all c.args.rows.now c.args.n c.loop-k.k (omega arith))
+returns c = c.loop-k.invariant.counted ∙ rw (rest_all c.args.rows.now c.args.n c.loop-k.k (omega arith))
