@@ -7,6 +7,7 @@ ghost use Rattle.piece.specs.Piece.{change_shaped, change_fields_at, change_of, 
 use message::{ChangeFields, ChangeReason, L3Event, L3Side, OrderId};
 use piece::{byte, change_reason_of, has_bit, read_optional, read_order_id, side_of, zero_unless};
 
+#[tactic(auto, unfolding(piece::specs::Piece::change_shaped))]
 fn change_shaped(s: &[u8]) -> bool
     requires { length s.now ≡ 100 }
     ensures { result ≡ change_shaped s.now }
@@ -23,6 +24,7 @@ fn change_shaped(s: &[u8]) -> bool
         & zero_unless(s, has_bit(presence, 32), 92)
 }
 
+#[tactic(auto, unfolding(piece::specs::Piece::change_fields_at))]
 fn read_change_fields(s: &[u8]) -> ChangeFields
     requires { length s.now ≡ 100 }
     ensures { result ≡ change_fields_at s.now }
@@ -38,28 +40,24 @@ fn read_change_fields(s: &[u8]) -> ChangeFields
     }
 }
 
+#[tactic(auto, unfolding(piece::specs::Piece::change_of))]
 fn change_of(order_id: OrderId, side: L3Side, reason: ChangeReason, f: ChangeFields) -> L3Event
     ensures { result ≡ change_of order_id side reason f }
 {
-    let price = f.price;
-    let old_size = f.old_size;
-    let new_size = f.new_size;
-    let old_price = f.old_price;
-    let new_price = f.new_price;
-    let new_funds = f.new_funds;
     L3Event::Change {
         order_id,
         side,
         reason,
-        price,
-        old_size,
-        new_size,
-        old_price,
-        new_price,
-        new_funds,
+        price: f.price,
+        old_size: f.old_size,
+        new_size: f.new_size,
+        old_price: f.old_price,
+        new_price: f.new_price,
+        new_funds: f.new_funds,
     }
 }
 
+#[tactic(auto, unfolding(piece::specs::Piece::read_change, piece::specs::Piece::event_if))]
 pub fn read_change(s: &[u8]) -> Option<L3Event>
     ensures { result ≡ read_change s.now }
 {
