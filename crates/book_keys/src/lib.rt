@@ -1,14 +1,12 @@
 // Whether an id rests twice, and how many levels there are, in expected linear time.
 #![tactic(auto)]
 
-ghost use Rattle.std.specs.Prelude.{◌≡◌, not};
-ghost use Rattle.message.specs.Same.{same_side};
+ghost use Rattle.std.specs.Prelude.{◌≡◌};
 ghost use Rattle.book.specs.Line.{levels, side_levels};
-ghost use Rattle.book.specs.Rows.{Lent, rows_of, side_of, line_of};
+ghost use Rattle.book.specs.Rows.{Lent, rows_of, line_of};
 ghost use Rattle.book.specs.Broken.{id_twice};
 ghost use Rattle.book_keys.specs.Others.{some_other};
 
-use book::Resting;
 use book_row_keys::KeyKind;
 use message::L3Side;
 
@@ -28,26 +26,12 @@ pub fn level_count(rows: &[u64], n: usize) -> usize
     book_buckets::count_keys(rows, n, KeyKind::Level)
 }
 
-// Whether a row is not of the side.
-fn is_other(o: Resting, side: L3Side) -> bool
-    ensures { result ≡ not (same_side (side_of o.kind) side) }
-{
-    !message::same_side(book::side_of(o.kind), side)
-}
-
 // Whether one of `n` rows is not of the side.
 fn some_other(rows: &[u64], n: usize, side: L3Side) -> bool
     requires { Lent rows.now n }
     ensures { result ≡ some_other side (rows_of rows.now n) }
 {
-    let mut i: usize = 0;
-    while i < n {
-        if is_other(book::get_row(rows, i), side) {
-            return true;
-        }
-        i += 1;
-    }
-    false
+    (0..n).any(|i| book::side_of(book::get_row(rows, i).kind) != side)
 }
 
 // How many levels a side of `n` rows has.

@@ -1,18 +1,19 @@
--- The answer for all rows stays that for the rows from `i` on: a row of the side adds nothing to it, another row makes it true, and no row makes it false.
+-- The test by place, over the places 0 to below `n`, is the test of the rows.
+use mathlib.Core.Path.{◌∙◌, refl}
+use mathlib.Core.Bool.{not}
 use native.Mathlib.Nat.{sub-zero}
-use native.Mathlib.Omega.{arith}
-use borrow.Author.Rules.{rules}
-use Rattle.book.proofs.Rows.{rows_next, rows-done}
+use Rattle.std.proofs.Common.{rules, tests}
+use Rattle.std.proofs.lemmas.Iterator.{YieldsList-from_range}
+use Rattle.std.proofs.lemmas.Iterator.Search.{any_from_yields_List}
+use Rattle.message.specs.Same.{same_side}
+use Rattle.book.specs.declared.Resting.{Resting}
+use Rattle.book.specs.Rows.{row_at, side_of}
+use Rattle.book.proofs.Rows.{any_rows}
+use Rattle.book_keys.specs.Others.{some_other}
 use Rattle.book_keys.proofs.some_other.Goals as goal
 
-pub loop-i-init : goal.loop-i-init
-loop-i-init c = (search rules, rw sub-zero)
-
-pub returns-then-is_other : goal.returns-then-is_other
-returns-then-is_other c = rw (c.loop-i.invariant.1, rows_next _ _ _ _ c.loop-i-test.true c.get_row.ensures, ← c.is_other.ensures, c.if-is_other.true)
-
-pub loop-i-preserved : goal.loop-i-preserved
-loop-i-preserved c = (omega arith, rw (c.loop-i.invariant.1, rows_next _ _ _ _ c.loop-i-test.true c.get_row.ensures, ← c.is_other.ensures, c.if-is_other.false))
-
 pub returns : goal.returns
-returns c = rw (c.loop-i.invariant.1, rows-done _ _ _ c.loop-i-test.false)
+returns c =
+    let test = λ (o : Resting). not (same_side (side_of o.kind) c.args.side) in
+    any_from_yields_List (λ i. test (row_at c.args.rows.now i)) _ _ _ c.any.ensures.ran (YieldsList-from_range 0 c.args.n c.args.n refl (sub-zero c.args.n)) (λ x b q k. search (rules, tests))
+    ∙ any_rows test (some_other c.args.side) refl (λ o os. refl) c.args.rows.now 0 c.args.n
