@@ -2,36 +2,29 @@
 #![tactic(auto)]
 
 ghost use Rattle.std.specs.Prelude.{◌≡◌};
-ghost use Rattle.reconstructor_reads.specs.Numbers.{shown_told, level_told, stale_told};
+ghost use Rattle.reconstructor_reads.specs.Numbers.{level_told, stale_told};
 ghost use Rattle.host_answers.specs.Answers.{answered, told_in};
 
 use host_answers::give;
-use reconstructor_reads::{LevelAnswer, Shown, StaleAnswer};
+use reconstructor_reads::{LevelError, StaleError};
 
-fn store_shown(count: &mut [u64], shown: Shown) -> u64
-    ensures { answered result count.new ≡ told_in (shown_told shown) count.old }
-{
-    match shown {
-        Shown::Entries(n) => { give(count, &[n as u64]) }
-        Shown::OutputTooSmall => 7,
-    }
-}
-
-pub fn store_level(count: &mut [u64], answer: LevelAnswer) -> u64
+pub fn store_level(count: &mut [u64], answer: Result<usize, LevelError>) -> u64
     ensures { answered result count.new ≡ told_in (level_told answer) count.old }
 {
     match answer {
-        LevelAnswer::Shown(shown) => store_shown(count, shown),
-        LevelAnswer::Refused(why) => why.number(),
+        Ok(n) => { give(count, &[n as u64]) }
+        Err(LevelError::View(why)) => why.number(),
+        Err(LevelError::OutputTooSmall) => 7,
     }
 }
 
-pub fn store_stale(count: &mut [u64], answer: StaleAnswer) -> u64
+pub fn store_stale(count: &mut [u64], answer: Result<Option<usize>, StaleError>) -> u64
     ensures { answered result count.new ≡ told_in (stale_told answer) count.old }
 {
     match answer {
-        StaleAnswer::NotStale => 256,
-        StaleAnswer::Shown(shown) => store_shown(count, shown),
-        StaleAnswer::Unusable(why) => why.number(),
+        Ok(Some(n)) => { give(count, &[n as u64]) }
+        Ok(None) => 256,
+        Err(StaleError::Unusable(why)) => why.number(),
+        Err(StaleError::OutputTooSmall) => 7,
     }
 }

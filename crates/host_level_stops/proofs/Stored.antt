@@ -1,6 +1,6 @@
 -- What a level read comes to: where something stands in its way, and where its answer has a word.
 -- Assumes nothing.
-use Rattle.std.specs.Prelude.{Option, Some, None}
+use Rattle.std.specs.Prelude.{Option, Some, None, Result, Ok, Err}
 use Prim.Native.Nat.{ℕ, ◌≤◌, ◌<◌}
 use native.Mathlib.Omega.{arith}
 use mathlib.Core.Path.{◌≡◌, refl, sym, ap, ◌∙◌}
@@ -16,11 +16,10 @@ use Rattle.message.specs.Told.{Told}
 use Rattle.reconstructor_view.specs.declared.ViewError.{ViewError}
 use Rattle.reconstructor_view.specs.Numbers.{sequence_told}
 use Rattle.reconstructor_view.specs.ValueReads.{sequence_of}
-use Rattle.reconstructor_reads.specs.declared.Shown.{Shown}
-use Rattle.reconstructor_reads.specs.declared.Shown.TheVariants.{Entries, OutputTooSmall}
-use Rattle.reconstructor_reads.specs.declared.LevelAnswer.{LevelAnswer}
-use Rattle.reconstructor_reads.specs.Numbers.{shown_told, level_told}
-use Rattle.reconstructor_reads.specs.LevelReads.{Shows, LevelRead, leaves, level_read}
+use Rattle.reconstructor_reads.specs.declared.OutputTooSmall.{OutputTooSmall}
+use Rattle.reconstructor_reads.specs.declared.LevelError.{LevelError}
+use Rattle.reconstructor_reads.specs.Numbers.{level_told}
+use Rattle.reconstructor_reads.specs.LevelReads.{Shows, LevelRead, leaves, level_shown, level_read}
 use Rattle.host_word_tests.specs.WordTests.{no_bit}
 use Rattle.host_boundary.specs.Boundary.{unless_turned}
 use Rattle.host_boundary.proofs.Passed.{passed}
@@ -92,12 +91,12 @@ module _ (k turned number : ℕ) (sc out count : List ℕ) (stop : k ≡ stop_of
       let past = through turned (length count) number (sym stop ∙ z) in
       rw (eq-eqb turned 0 past.0, le-ltb (length count) 1 past.1) (ap (λ (x : Answered). level_called x.number left shown x.out) p)
 
--- what is shown and what has no room are both 7 where the number of entries has no word
-pub seven : (a : Shown) → 7 ≡ lastly (shown_told a).number
-seven (Entries n) = refl
-seven OutputTooSmall = refl
-
 -- ---- of a valid book
+
+-- what is shown and what has no room are both 7 where the number of entries has no word
+seven : (a : Result ℕ OutputTooSmall) → 7 ≡ lastly (level_told (level_shown a)).number
+seven (Ok n) = refl
+seven (Err e) = refl
 
 level-lastly : (o : Option ViewError) (last : ℕ) (s : Shows) (sc out : List ℕ)
     → lastly (sequence_told (sequence_of o last)).number ≡ lastly (level_told (level_read o s sc out).answer).number
@@ -109,7 +108,7 @@ module _ (k turned : ℕ) (o : Option ViewError) (last : ℕ) (sc out count : Li
   pub level-stopped : (s : Shows) → (k ≡ 0 → ⊥) → level_called k sc out count ≡ unless_turned turned (λ (n : ℕ). level_called n sc out count) (after_level sc out count (level_read o s sc out))
   level-stopped s h = stopped k turned _ sc out count stop (level_told (level_read o s sc out).answer) (level_read o s sc out).scratch (level_read o s sc out).out h (level-lastly o last s sc out)
 
-  pub level-stored : (n : ℕ) (left shown after : List ℕ) (a : LevelAnswer) (r : LevelRead) → k ≡ 0 → answered n after ≡ told_in (level_told a) count → leaves a left shown ≡ r
+  pub level-stored : (n : ℕ) (left shown after : List ℕ) (a : Result ℕ LevelError) (r : LevelRead) → k ≡ 0 → answered n after ≡ told_in (level_told a) count → leaves a left shown ≡ r
       → level_called n left shown after ≡ unless_turned turned (λ (m : ℕ). level_called m sc out count) (after_level sc out count r)
   level-stored n left shown after a r z p q =
       stored k turned _ sc out count stop n left shown after (level_told a) z p ∙ ap (λ (x : LevelRead). unless_turned turned (λ (m : ℕ). level_called m sc out count) (after_level sc out count x)) q

@@ -1,13 +1,12 @@
 -- The exported level read of an invalid book: what it answers and writes, as the other level reads do (Stops.antt of `host_level_stops`).
-use Rattle.std.specs.Prelude.{ℕ, List, [], ltb, length}
+use Rattle.std.specs.Prelude.{ℕ, List, [], ltb, length, Err}
 use Rattle.piece.specs.Piece.{side_of}
 use Rattle.reconstructor_state.specs.State.{ceiling}
 use Rattle.book.specs.Memory.{memory}
 use Rattle.host_words.specs.Block.{book_of}
 use Rattle.reconstructor_view.specs.ValueReads.{read_refusal_of}
-use Rattle.reconstructor_reads.specs.declared.Shown.TheVariants.{OutputTooSmall}
 use Rattle.reconstructor_reads.specs.Numbers.{stale_told}
-use Rattle.reconstructor_reads.specs.LevelReads.{StaleRead, shows, stale_read, stale_l2}
+use Rattle.reconstructor_reads.specs.LevelReads.{too_small, StaleRead, shows, stale_read, stale_l2}
 use Rattle.host_boundary.specs.Boundary.{unless_turned}
 use Rattle.host_level_stops.specs.Stops.{LevelCall, level_called, counted, level_boundary, stop_of}
 
@@ -24,5 +23,5 @@ abbrev pub stale_stop : List ℕ → List ℕ → ℕ → ℕ → ℕ → ℕ
 stale_stop st ws scratch side count =
     stop_of (level_boundary st ws scratch side) count
     (stale_told
-    (stale_read (read_refusal_of ceiling (book_of st) (memory ws) (ltb scratch (book_of st).rules.max_orders)) (book_of st).status (shows OutputTooSmall [] []) [] []).answer
+    (stale_read (read_refusal_of ceiling (book_of st) (memory ws) (ltb scratch (book_of st).rules.max_orders)) (book_of st).status (shows (Err too_small) [] []) [] []).answer
     ).number

@@ -1,13 +1,12 @@
 // The level read of an invalid book whose state is words, which `host` exports.
 #![tactic(auto)]
 
-ghost use Rattle.std.specs.Prelude.{◌≡◌, []};
+ghost use Rattle.std.specs.Prelude.{◌≡◌, [], Err};
 ghost use Rattle.book.specs.Memory.{memory};
 ghost use Rattle.reconstructor_state.specs.State.{ceiling};
 ghost use Rattle.reconstructor_view.specs.ValueReads.{read_refusal_of};
-ghost use Rattle.reconstructor_reads.specs.declared.Shown.TheVariants.{OutputTooSmall};
 ghost use Rattle.reconstructor_reads.specs.Numbers.{stale_told};
-ghost use Rattle.reconstructor_reads.specs.LevelReads.{shows, stale_read};
+ghost use Rattle.reconstructor_reads.specs.LevelReads.{too_small, shows, stale_read};
 ghost use Rattle.host_answers.specs.Answers.{lastly};
 ghost use Rattle.host_level_stops.specs.Stops.{level_called};
 ghost use Rattle.host_stale_levels.specs.Stale.{stale_stop, stale_call};
@@ -20,7 +19,7 @@ use reconstructor_state::{BookReconstructor, Status, VenueRules};
 
 // The number of a read of an invalid book whose answer has no room: 7, or 256 where the book is not invalid, unless it is turned away before. `short` says that its scratch is too short.
 fn unwritten_stale(book: BookReconstructor, rows: &[u64], short: bool) -> u64
-    ensures { result ≡ lastly (stale_told (stale_read (read_refusal_of ceiling book (memory rows.now) short) book.status (shows OutputTooSmall [] []) [] []).answer).number }
+    ensures { result ≡ lastly (stale_told (stale_read (read_refusal_of ceiling book (memory rows.now) short) book.status (shows (Err too_small) [] []) [] []).answer).number }
 {
     match reconstructor_view::read_checks(VenueRules::CEILING, book, rows, short) {
         Err(why) => why.number(),

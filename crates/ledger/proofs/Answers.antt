@@ -36,11 +36,8 @@ use Rattle.reconstructor_view.specs.declared.ViewError.{ViewError}
 use Rattle.reconstructor_view.specs.declared.ViewError.TheVariants as errors
 use Rattle.reconstructor_view.specs.Numbers.{view_error_number}
 use Rattle.reconstructor_view.specs.ValueReads.{read_refusal, view_refusal, read_refusal_of, view_refusal_of, sequence_of, best_of, audited_of, last_sequence}
-use Rattle.reconstructor_reads.specs.declared.Shown.TheVariants.{Entries}
-use Rattle.reconstructor_reads.specs.declared.LevelAnswer.TheVariants as levels
-use Rattle.reconstructor_reads.specs.declared.StaleAnswer.TheVariants as stales
 use Rattle.reconstructor_reads.specs.Numbers.{level_told}
-use Rattle.reconstructor_reads.specs.LevelReads.{queue_words, profile_words, l2_words, Content, queue_content, levels_content, Shows, shown, level_read, scratch_short, read_of, stale_read, level_queue, priority_profile, stale_l2}
+use Rattle.reconstructor_reads.specs.LevelReads.{queue_words, profile_words, l2_words, Content, queue_content, levels_content, Shows, shown, level_shown, level_read, scratch_short, read_of, stale_shown, stale_read, level_queue, priority_profile, stale_l2}
 use Rattle.queue.specs.Estimates.{estimated, own_viewed, ahead_refusal, ahead_of}
 use Rattle.ledger.specs.Ledger.{Config}
 use Rattle.ledger.specs.World.{World}
@@ -79,20 +76,20 @@ valid-says top v lent scratch (statuses.Invalidated i) h e = let z : ◌≡◌ {
 
 -- ---- what is shown where the output has room
 
-shows_all : (m : ℕ) (c : Content) (sc out : List ℕ) (k : ℕ) → c.entries ≡ k → length c.words ≤ length out → (shown m c sc out).answer ≡ Entries k
+shows_all : (m : ℕ) (c : Content) (sc out : List ℕ) (k : ℕ) → c.entries ≡ k → length c.words ≤ length out → (shown m c sc out).answer ≡ Ok k
 unfolding shown
-shows_all m c sc out k e h = rw (le-ltb (length out) (length c.words) h) (ap Entries e)
+shows_all m c sc out k e h = rw (le-ltb (length out) (length c.words) h) (ap Ok e)
 
 queue-length : (os : List Resting) → length os ≡ length (shown_queue os)
 queue-length [] = refl
 queue-length (o ∷ os) = omega (arith, queue-length os)
 
-level-answer : (o : Option ViewError) (w : Shows) (sc out : List ℕ) → o ≡ None → (level_read o w sc out).answer ≡ levels.Shown w.answer
+level-answer : (o : Option ViewError) (w : Shows) (sc out : List ℕ) → o ≡ None → (level_read o w sc out).answer ≡ level_shown w.answer
 unfolding level_read
 level-answer o w sc out h = rw h
 
 stale-answer : (top : ℕ) (b : BookReconstructor) (mem : Memory) (sc : List ℕ) (t : Status) (w : Shows) (out : List ℕ) → read_refusal_of top b mem (scratch_short b sc) ≡ None → standing_of t ≡ invalid
-    → (stale_read (read_refusal_of top b mem (scratch_short b sc)) t w sc out).answer ≡ stales.Shown w.answer
+    → (stale_read (read_refusal_of top b mem (scratch_short b sc)) t w sc out).answer ≡ stale_shown w.answer
 unfolding stale_read
 stale-answer top b mem sc statuses.Empty w out h q = let z : ◌≡◌ {A = ℕ} 0 1 = cc in absurd (omega arith)
 stale-answer top b mem sc (statuses.Valid last) w out h q = let z : ◌≡◌ {A = ℕ} 0 1 = cc in absurd (omega arith)
@@ -203,26 +200,26 @@ module _ (top : ℕ) (c : Config) (r : Extent) (s : ℕ) (w : World) (v : View) 
     levels-many t = ap (λ (x : List Entry). length (prices t x)) (whole-line lent-memory)
 
     pub queue-answers : standing_of v.status ≡ valid → (t : L3Side) (z : ℤ) (out : List ℕ) → queue_words * length (queue t (nat_of z) v.line) ≤ length out
-        → (level_queue top w.book mem sc t z out).answer ≡ levels.Shown (Entries (length (queue t (nat_of z) v.line)))
+        → (level_queue top w.book mem sc t z out).answer ≡ Ok (length (queue t (nat_of z) v.line))
     queue-answers h t z out k =
         level-answer _ (shown w.book.rules.max_orders (queue_content t (nat_of z) os) sc out) sc out (viewed-none h)
-        ∙ ap levels.Shown
+        ∙ ap level_shown
         (shows_all w.book.rules.max_orders (queue_content t (nat_of z) os) sc out _ (queue-many t (nat_of z))
         (omega (arith, k, queue-many t (nat_of z), width-entries Queue (rows_at t (nat_of z) os))))
 
     pub profile-answers : standing_of v.status ≡ valid → (t : L3Side) (out : List ℕ) → profile_words * length (prices t v.line) ≤ length out
-        → (priority_profile top w.book mem sc t out).answer ≡ levels.Shown (Entries (length (prices t v.line)))
+        → (priority_profile top w.book mem sc t out).answer ≡ Ok (length (prices t v.line))
     profile-answers h t out k =
         level-answer _ (shown w.book.rules.max_orders (levels_content profile_words t os) sc out) sc out (viewed-none h)
-        ∙ ap levels.Shown
+        ∙ ap level_shown
         (shows_all w.book.rules.max_orders (levels_content profile_words t os) sc out _ (levels-many t)
         (omega (arith, k, levels-many t, length-levels 3 (omega arith) t os (prices t (line_of os)))))
 
     pub stale-answers : standing_of v.status ≡ invalid → (t : L3Side) (out : List ℕ) → l2_words * length (prices t v.line) ≤ length out
-        → (stale_l2 top w.book mem sc t out).answer ≡ stales.Shown (Entries (length (prices t v.line)))
+        → (stale_l2 top w.book mem sc t out).answer ≡ Ok (Some (length (prices t v.line)))
     stale-answers h t out k =
         stale-answer top w.book mem sc w.book.status (shown w.book.rules.max_orders (levels_content l2_words t os) sc out) out read_none (ap standing_of status_is ∙ h)
-        ∙ ap stales.Shown
+        ∙ ap stale_shown
         (shows_all w.book.rules.max_orders (levels_content l2_words t os) sc out _ (levels-many t)
         (omega (arith, k, levels-many t, length-levels 2 (omega arith) t os (prices t (line_of os)))))
 

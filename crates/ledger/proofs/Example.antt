@@ -1,5 +1,6 @@
 -- Against emptiness: a worked list of calls, with refusals, a re-sent message dropped in a handshake, an invalidation and a recovery, and what it comes to.
 -- Assumes nothing.
+use Rattle.std.specs.Prelude.{Ok}
 use Prim.Native.Nat.{ℕ}
 use mathlib.Core.Path.{◌≡◌, refl}
 use mathlib.Core.Bool.{false}
@@ -36,8 +37,6 @@ use Rattle.reconstructor_bootstrap.specs.Bootstrap.{bootstrapped_to, bootstrappe
 use Rattle.reconstructor_handshake.specs.declared.Handshake.{Handshake}
 use Rattle.reconstructor_handshake.specs.Step.{step_refusal, unless_refused, stepped_to, stepped}
 use Rattle.reconstructor_view.specs.ValueReads.{view_refusal, read_refusal}
-use Rattle.reconstructor_reads.specs.declared.Shown.TheVariants.{Entries}
-use Rattle.reconstructor_reads.specs.declared.LevelAnswer.TheVariants as levels
 use Rattle.reconstructor_reads.specs.LevelReads.{shown, level_read, level_queue, stale_read, stale_l2}
 use Rattle.ledger.specs.Ledger.{Config, Call, bootstrap, apply, step, read, level_queue as ask_queue, fresh, outcome_of, apply_outcome, step_outcome_of, step_outcome, tally, feed_view, feed_figure, feed_all}
 use Rattle.ledger.specs.World.{perform, run, lent_memory, Lendable, fresh_world, volume_at}
@@ -137,7 +136,7 @@ pub record Worked : Type 0 where
   end-volume : volume_at Buy 10 (run ceiling (fresh_world config words records) (before ++ (after ++ recovered))) ≡ 3
   end-figure : (feed_all ceiling config fresh (before ++ (after ++ recovered))).figure Buy 10 ≡ 3
   -- a read of the one and a stale read of the other say so; another read of it is turned away
-  before-read : (level_queue ceiling (run ceiling (fresh_world config words records) before).book (lent_memory (lent 24 2) (run ceiling (fresh_world config words records) before)) (5 ∷ 5 ∷ 5 ∷ []) Buy (pos 10) (replicate 10 4)).answer ≡ levels.Shown (Entries 2)
+  before-read : (level_queue ceiling (run ceiling (fresh_world config words records) before).book (lent_memory (lent 24 2) (run ceiling (fresh_world config words records) before)) (5 ∷ 5 ∷ 5 ∷ []) Buy (pos 10) (replicate 10 4)).answer ≡ Ok 2
   after-stale : (stale_l2 ceiling (run ceiling (fresh_world config words records) (before ++ after)).book (lent_memory (lent 24 2) (run ceiling (fresh_world config words records) (before ++ after))) (5 ∷ 5 ∷ 5 ∷ []) Buy (replicate 3 4)).out ≡ 10 ∷ 7 ∷ 4 ∷ []
   -- what counts
   counts : kept ceiling config (before ++ (after ++ recovered)) ≡ recovered

@@ -1,6 +1,6 @@
 -- What a read of a book in the host's memory says of its line.
 -- Assumes nothing.
-use Rattle.std.specs.Prelude.{Option, Some, None}
+use Rattle.std.specs.Prelude.{Option, Some, None, Result, Ok, Err}
 use Prim.Native.Nat.{ℕ, ◌*◌}
 use native.Mathlib.Omega.{arith}
 use mathlib.Core.Bool.{Bool, true, false, cond}
@@ -30,11 +30,8 @@ use Rattle.reconstructor_view.specs.declared.ViewError.{ViewError}
 use Rattle.reconstructor_checks.proofs.StateChecks.{sound, memory-room}
 use Rattle.reconstructor_view.specs.ValueReads.{read_refusal_of, view_refusal_of}
 use Rattle.reconstructor_view.proofs.Readable.{Readable, readable, valid-read}
-use Rattle.reconstructor_reads.specs.declared.Shown.{Shown}
-use Rattle.reconstructor_reads.specs.declared.Shown.TheVariants.{Entries, OutputTooSmall}
-use Rattle.reconstructor_reads.specs.declared.LevelAnswer.TheVariants as levels
-use Rattle.reconstructor_reads.specs.declared.StaleAnswer.TheVariants as stales
-use Rattle.reconstructor_reads.specs.LevelReads.{queue_words, profile_words, l2_words, Content, queue_content, levels_content, Shows, shows, shown, level_read, scratch_short, stale_read, level_queue, priority_profile, stale_l2}
+use Rattle.reconstructor_reads.specs.declared.OutputTooSmall.{OutputTooSmall}
+use Rattle.reconstructor_reads.specs.LevelReads.{queue_words, profile_words, l2_words, Content, queue_content, levels_content, too_small, Shows, shows, shown, level_shown, level_read, scratch_short, stale_shown, stale_read, level_queue, priority_profile, stale_l2}
 use Rattle.reconstructor_reads.specs.Said.{queue_said, profile_said, l2_said, volumes_at}
 use Rattle.reconstructor_reads.proofs.Laws.{queue-said, profile-said, l2-said}
 use Rattle.ledger.proofs.Stands.{rows-front}
@@ -44,12 +41,12 @@ record Wrote (c : Content) (out after : List ℕ) (k : ℕ) : Type 0 where
   many : k ≡ c.entries
   words : after ≡ written c.words out
 
-shows-entries : (m : ℕ) (c : Content) (sc out : List ℕ) (k : ℕ) → (shown m c sc out).answer ≡ Entries k → Wrote c out (shown m c sc out).out k
+shows-entries : (m : ℕ) (c : Content) (sc out : List ℕ) (k : ℕ) → (shown m c sc out).answer ≡ Ok k → Wrote c out (shown m c sc out).out k
 unfolding shown
 shows-entries m c sc out k h = go (ltb (length out) (length c.words)) h
   where
-    go : (b : Bool) → (cond {A = Shows} b (shows OutputTooSmall sc out) (shows (Entries c.entries) (zeroed m sc) (written c.words out))).answer ≡ Entries k
-        → Wrote c out (cond {A = Shows} b (shows OutputTooSmall sc out) (shows (Entries c.entries) (zeroed m sc) (written c.words out))).out k
+    go : (b : Bool) → (cond {A = Shows} b (shows (Err too_small) sc out) (shows (Ok c.entries) (zeroed m sc) (written c.words out))).answer ≡ Ok k
+        → Wrote c out (cond {A = Shows} b (shows (Err too_small) sc out) (shows (Ok c.entries) (zeroed m sc) (written c.words out))).out k
     go true q = let z : ◌≡◌ {A = ℕ} 0 1 = cc in absurd (omega arith)
     go false q = record { many = cc; words = refl }
 
@@ -66,19 +63,27 @@ module _ (top : ℕ) (b : BookReconstructor) (mem : Memory) (n : Extent) (short 
       sym (ap (λ (x : List ℕ). rows_of x b.rows) (sym (take-append-drop n.rows mem.rows))
       ∙ rows-front (take n.rows mem.rows) (drop n.rows mem.rows) b.rows (omega (arith, f, l)))
 
-level-shown : (o : Option ViewError) (w : Shows) (sc out : List ℕ) (x : Shown) → (level_read o w sc out).answer ≡ levels.Shown x
-    → (o ≡ None) × (w.answer ≡ x) × ((level_read o w sc out).out ≡ w.out)
-unfolding level_read
-level-shown (Some e) w sc out x h = let z : ◌≡◌ {A = ℕ} 0 1 = cc in absurd (omega arith)
-level-shown None w sc out x h = (refl, cc, refl)
+level-count : (a : Result ℕ OutputTooSmall) (k : ℕ) → level_shown a ≡ Ok k → a ≡ Ok k
+level-count (Ok n) k h = cc
+level-count (Err e) k h = let z : ◌≡◌ {A = ℕ} 0 1 = cc in absurd (omega arith)
 
-stale-shown : (o : Option StateError) (s : Status) (w : Shows) (sc out : List ℕ) (k : ℕ) → (stale_read o s w sc out).answer ≡ stales.Shown (Entries k)
-    → (o ≡ None) × (w.answer ≡ Entries k) × ((stale_read o s w sc out).out ≡ w.out)
+level-says : (o : Option ViewError) (w : Shows) (sc out : List ℕ) (k : ℕ) → (level_read o w sc out).answer ≡ Ok k
+    → (o ≡ None) × (w.answer ≡ Ok k) × ((level_read o w sc out).out ≡ w.out)
+unfolding level_read
+level-says (Some e) w sc out k h = let z : ◌≡◌ {A = ℕ} 0 1 = cc in absurd (omega arith)
+level-says None w sc out k h = (refl, level-count w.answer k h, refl)
+
+stale-count : (a : Result ℕ OutputTooSmall) (k : ℕ) → stale_shown a ≡ Ok (Some k) → a ≡ Ok k
+stale-count (Ok n) k h = cc
+stale-count (Err e) k h = let z : ◌≡◌ {A = ℕ} 0 1 = cc in absurd (omega arith)
+
+stale-says : (o : Option StateError) (s : Status) (w : Shows) (sc out : List ℕ) (k : ℕ) → (stale_read o s w sc out).answer ≡ Ok (Some k)
+    → (o ≡ None) × (w.answer ≡ Ok k) × ((stale_read o s w sc out).out ≡ w.out)
 unfolding stale_read
-stale-shown (Some e) s w sc out k h = let z : ◌≡◌ {A = ℕ} 0 1 = cc in absurd (omega arith)
-stale-shown None statuses.Empty w sc out k h = let z : ◌≡◌ {A = ℕ} 0 1 = cc in absurd (omega arith)
-stale-shown None (statuses.Valid last) w sc out k h = let z : ◌≡◌ {A = ℕ} 0 1 = cc in absurd (omega arith)
-stale-shown None (statuses.Invalidated i) w sc out k h = (refl, cc, refl)
+stale-says (Some e) s w sc out k h = let z : ◌≡◌ {A = ℕ} 0 1 = cc in absurd (omega arith)
+stale-says None statuses.Empty w sc out k h = let z : ◌≡◌ {A = ℕ} 0 1 = cc in absurd (omega arith)
+stale-says None (statuses.Valid last) w sc out k h = let z : ◌≡◌ {A = ℕ} 0 1 = cc in absurd (omega arith)
+stale-says None (statuses.Invalidated i) w sc out k h = (refl, stale-count w.answer k h, refl)
 
 module _ (top : ℕ) (b : BookReconstructor) (mem : Memory) (n : Extent) (sc : List ℕ) (s : L3Side) (out : List ℕ) (k : ℕ) where
   abbrev os : List Resting
@@ -87,10 +92,10 @@ module _ (top : ℕ) (b : BookReconstructor) (mem : Memory) (n : Extent) (sc : L
   abbrev short : Bool
   short = scratch_short b sc
 
-  pub queue-said_of : (z : ℤ) → (level_queue top b (front n mem) sc s z out).answer ≡ levels.Shown (Entries k)
+  pub queue-said_of : (z : ℤ) → (level_queue top b (front n mem) sc s z out).answer ≡ Ok k
       → queue_said (take (queue_words * k) (level_queue top b (front n mem) sc s z out).out) ≡ queue s (nat_of z) (line_in mem b.rows)
   queue-said_of z h =
-      let l = level-shown (view_refusal_of top b (front n mem) short) (shown b.rules.max_orders (queue_content s (nat_of z) os) sc out) sc out (Entries k) h in
+      let l = level-says (view_refusal_of top b (front n mem) short) (shown b.rules.max_orders (queue_content s (nat_of z) os) sc out) sc out k h in
       let w = shows-entries b.rules.max_orders (queue_content s (nat_of z) os) sc out k l.1 in
       let r = same-orders top b mem n short (valid-read top b (front n mem) short l.0).0 in
       ap (λ (x : List ℕ). queue_said (take (queue_words * k) x)) l.2
@@ -98,10 +103,10 @@ module _ (top : ℕ) (b : BookReconstructor) (mem : Memory) (n : Extent) (sc : L
       ∙ queue-said s (nat_of z) os
       ∙ ap (λ (x : List Resting). queue s (nat_of z) (line_of x)) r
 
-  pub profile-said_of : (priority_profile top b (front n mem) sc s out).answer ≡ levels.Shown (Entries k)
+  pub profile-said_of : (priority_profile top b (front n mem) sc s out).answer ≡ Ok k
       → profile_said (take (profile_words * k) (priority_profile top b (front n mem) sc s out).out) ≡ volumes_at s (orders_of mem b.rows) (prices s (line_in mem b.rows))
   profile-said_of h =
-      let l = level-shown (view_refusal_of top b (front n mem) short) (shown b.rules.max_orders (levels_content profile_words s os) sc out) sc out (Entries k) h in
+      let l = level-says (view_refusal_of top b (front n mem) short) (shown b.rules.max_orders (levels_content profile_words s os) sc out) sc out k h in
       let w = shows-entries b.rules.max_orders (levels_content profile_words s os) sc out k l.1 in
       let r = same-orders top b mem n short (valid-read top b (front n mem) short l.0).0 in
       ap (λ (x : List ℕ). profile_said (take (profile_words * k) x)) l.2
@@ -109,10 +114,10 @@ module _ (top : ℕ) (b : BookReconstructor) (mem : Memory) (n : Extent) (sc : L
       ∙ profile-said s os
       ∙ ap (λ (x : List Resting). volumes_at s x (prices s (line_of x))) r
 
-  pub stale-said_of : (stale_l2 top b (front n mem) sc s out).answer ≡ stales.Shown (Entries k)
+  pub stale-said_of : (stale_l2 top b (front n mem) sc s out).answer ≡ Ok (Some k)
       → l2_said (take (l2_words * k) (stale_l2 top b (front n mem) sc s out).out) ≡ volumes_at s (orders_of mem b.rows) (prices s (line_in mem b.rows))
   stale-said_of h =
-      let l = stale-shown (read_refusal_of top b (front n mem) short) b.status (shown b.rules.max_orders (levels_content l2_words s os) sc out) sc out k h in
+      let l = stale-says (read_refusal_of top b (front n mem) short) b.status (shown b.rules.max_orders (levels_content l2_words s os) sc out) sc out k h in
       let w = shows-entries b.rules.max_orders (levels_content l2_words s os) sc out k l.1 in
       let r = same-orders top b mem n short (readable top b (front n mem) short l.0) in
       ap (λ (x : List ℕ). l2_said (take (l2_words * k) x)) l.2

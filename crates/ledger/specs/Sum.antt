@@ -20,9 +20,6 @@ use Rattle.reconstructor_checks.specs.StateChecks.{over_ceiling, memory_short, b
 use Rattle.reconstructor_bootstrap.specs.Snapshot.{snapshot_line}
 use Rattle.reconstructor_view.specs.Numbers.{sequence_told, best_told, audited_told}
 use Rattle.reconstructor_view.specs.ValueReads.{last_sequence, best_read, audit_read}
-use Rattle.reconstructor_reads.specs.declared.Shown.TheVariants.{Entries}
-use Rattle.reconstructor_reads.specs.declared.LevelAnswer.TheVariants as levels
-use Rattle.reconstructor_reads.specs.declared.StaleAnswer.TheVariants as stales
 use Rattle.reconstructor_reads.specs.Numbers.{level_told}
 use Rattle.reconstructor_reads.specs.LevelReads.{queue_words, profile_words, l2_words, level_queue, priority_profile, l2, stale_l2}
 use Rattle.reconstructor_reads.specs.Said.{queue_said, profile_said, l2_said}
@@ -104,18 +101,18 @@ pub record TurnedAway (top : ℕ) (v : VenueRules) (b : BookReconstructor) (mem 
 pub record Readings (top : ℕ) (v : VenueRules) (w : World) (l : Ledger) : Type 0 where
   -- "the queue and profile reads .. give exactly these where asked"
   pub queue-read : (n : Extent) (sc : List ℕ) (s : L3Side) (z : ℤ) (out : List ℕ) (k : ℕ)
-      → (level_queue top w.book (front n w.memory) sc s z out).answer ≡ levels.Shown (Entries k)
+      → (level_queue top w.book (front n w.memory) sc s z out).answer ≡ Ok k
       → queue_said (take (queue_words * k) (level_queue top w.book (front n w.memory) sc s z out).out) ≡ queue s (nat_of z) l.view.line
   pub profile-read : (n : Extent) (sc : List ℕ) (s : L3Side) (out : List ℕ) (k : ℕ)
-      → (priority_profile top w.book (front n w.memory) sc s out).answer ≡ levels.Shown (Entries k)
+      → (priority_profile top w.book (front n w.memory) sc s out).answer ≡ Ok k
       → profile_said (take (profile_words * k) (priority_profile top w.book (front n w.memory) sc s out).out) ≡ figures_of s (prices s l.view.line) l.figure
   -- "unless 01's table turns them away": where it names nothing they answer, with the number of orders and of levels
   pub queue-answers : ledger_standing l ≡ valid → (n : Extent) (sc : List ℕ) → Enough top v (extent_of (front n w.memory)) (length sc) → (s : L3Side) (z : ℤ) (out : List ℕ)
       → queue_words * length (queue s (nat_of z) l.view.line) ≤ length out
-      → (level_queue top w.book (front n w.memory) sc s z out).answer ≡ levels.Shown (Entries (length (queue s (nat_of z) l.view.line)))
+      → (level_queue top w.book (front n w.memory) sc s z out).answer ≡ Ok (length (queue s (nat_of z) l.view.line))
   pub profile-answers : ledger_standing l ≡ valid → (n : Extent) (sc : List ℕ) → Enough top v (extent_of (front n w.memory)) (length sc) → (s : L3Side) (out : List ℕ)
       → profile_words * length (prices s l.view.line) ≤ length out
-      → (priority_profile top w.book (front n w.memory) sc s out).answer ≡ levels.Shown (Entries (length (prices s l.view.line)))
+      → (priority_profile top w.book (front n w.memory) sc s out).answer ≡ Ok (length (prices s l.view.line))
   -- and so does the last sequence, with the ledger's
   pub last-answers : ledger_standing l ≡ valid → (n : Extent) → Enough top v (extent_of (front n w.memory)) v.max_orders
       → last_sequence top w.book (front n w.memory) ≡ Ok (last_of l.view.status)
@@ -123,16 +120,16 @@ pub record Readings (top : ℕ) (v : VenueRules) (w : World) (l : Ledger) : Type
   pub turned-away : ledger_standing l ≡ invalid → (n : Extent) → TurnedAway top v w.book (front n w.memory)
   -- the stale one: what it shows are the ledger's figures, which 20 to 44 leave as they stood
   pub stale-read : (n : Extent) (sc : List ℕ) (s : L3Side) (out : List ℕ) (k : ℕ)
-      → (stale_l2 top w.book (front n w.memory) sc s out).answer ≡ stales.Shown (Entries k)
+      → (stale_l2 top w.book (front n w.memory) sc s out).answer ≡ Ok (Some k)
       → l2_said (take (l2_words * k) (stale_l2 top w.book (front n w.memory) sc s out).out) ≡ figures_of s (prices s l.view.line) l.figure
   pub stale-answers : ledger_standing l ≡ invalid → (n : Extent) (sc : List ℕ) → Enough top v (extent_of (front n w.memory)) (length sc) → (s : L3Side) (out : List ℕ)
       → l2_words * length (prices s l.view.line) ≤ length out
-      → (stale_l2 top w.book (front n w.memory) sc s out).answer ≡ stales.Shown (Entries (length (prices s l.view.line)))
+      → (stale_l2 top w.book (front n w.memory) sc s out).answer ≡ Ok (Some (length (prices s l.view.line)))
 
 -- the stale one "gives exactly the volumes that stood before that message"
 abbrev pub StaleReading : ℕ → World → World → Type 0
 StaleReading top w x =
-    (n : Extent) (sc : List ℕ) (s : L3Side) (out : List ℕ) (k : ℕ) → (stale_l2 top w.book (front n w.memory) sc s out).answer ≡ stales.Shown (Entries k)
+    (n : Extent) (sc : List ℕ) (s : L3Side) (out : List ℕ) (k : ℕ) → (stale_l2 top w.book (front n w.memory) sc s out).answer ≡ Ok (Some k)
     → l2_said (take (l2_words * k) (stale_l2 top w.book (front n w.memory) sc s out).out) ≡ figures_of s (prices s (line_at x)) (λ (t : L3Side) (p : ℕ). volume_at t p x)
 
 -- an invalid book's calls: those before the invalidating one, that one, and those since, of which none counted; what rests is what stood before that message

@@ -1,5 +1,5 @@
 -- The level reads: what each answers, writes and leaves, for every input. 01, Reads and Rows and pieces.
-use Rattle.std.specs.Prelude.{ℕ, Bool, cond, List, ltb, ℤ, length, Option, Some, None}
+use Rattle.std.specs.Prelude.{ℕ, Bool, cond, List, ltb, ℤ, length, Option, Some, None, Result, Ok, Err}
 use Rattle.message.specs.declared.L3Side.{L3Side}
 use Rattle.message.specs.Amounts.{nat_of}
 use Rattle.book.specs.declared.Resting.{Resting}
@@ -15,12 +15,11 @@ use Rattle.reconstructor_answers.specs.declared.StateError.{StateError}
 use Rattle.reconstructor_state.specs.declared.BookReconstructor.{BookReconstructor}
 use Rattle.reconstructor_view.specs.declared.ViewError.{ViewError}
 use Rattle.reconstructor_view.specs.ValueReads.{read_refusal_of, view_refusal_of}
-use Rattle.reconstructor_reads.specs.declared.Shown.{Shown}
-use Rattle.reconstructor_reads.specs.declared.Shown.TheVariants.{Entries, OutputTooSmall}
-use Rattle.reconstructor_reads.specs.declared.LevelAnswer.{LevelAnswer}
-use Rattle.reconstructor_reads.specs.declared.LevelAnswer.TheVariants as levels
-use Rattle.reconstructor_reads.specs.declared.StaleAnswer.{StaleAnswer}
-use Rattle.reconstructor_reads.specs.declared.StaleAnswer.TheVariants as stales
+use Rattle.reconstructor_reads.specs.declared.OutputTooSmall.{OutputTooSmall}
+use Rattle.reconstructor_reads.specs.declared.LevelError.{LevelError}
+use Rattle.reconstructor_reads.specs.declared.LevelError.TheVariants as levels
+use Rattle.reconstructor_reads.specs.declared.StaleError.{StaleError}
+use Rattle.reconstructor_reads.specs.declared.StaleError.TheVariants as stales
 
 -- ---- what is shown
 
@@ -51,35 +50,44 @@ levels_content width s os =
 
 -- ---- what is left in the lent words
 
+-- 7
+abbrev pub too_small : OutputTooSmall
+too_small = record {}
+
 -- the answer, the scratch and the output afterwards
 pub record Shows : Type 0 where
-  pub answer : Shown
+  pub answer : Result ℕ OutputTooSmall
   pub scratch : List ℕ
   pub out : List ℕ
 
-abbrev pub shows : Shown → List ℕ → List ℕ → Shows
+abbrev pub shows : Result ℕ OutputTooSmall → List ℕ → List ℕ → Shows
 shows a sc out = record { answer = a; scratch = sc; out = out }
 
 -- 7: "output too small". "The answer counts the entries; words past them are untouched"; scratch has "its first max_orders words zeroed on success"
 unfoldable pub shown : ℕ → Content → List ℕ → List ℕ → Shows
 shown max_orders c sc out =
-    cond (ltb (length out) (length c.words)) (shows OutputTooSmall sc out)
-    (shows (Entries c.entries) (zeroed max_orders sc) (written c.words out))
+    cond (ltb (length out) (length c.words)) (shows (Err too_small) sc out)
+    (shows (Ok c.entries) (zeroed max_orders sc) (written c.words out))
 
 -- ---- the reads of a valid book
 
 pub record LevelRead : Type 0 where
-  pub answer : LevelAnswer
+  pub answer : Result ℕ LevelError
   pub scratch : List ℕ
   pub out : List ℕ
 
-abbrev pub leaves : LevelAnswer → List ℕ → List ℕ → LevelRead
+abbrev pub leaves : Result ℕ LevelError → List ℕ → List ℕ → LevelRead
 leaves a sc out = record { answer = a; scratch = sc; out = out }
+
+-- how many entries there are, or 7
+abbrev pub level_shown : Result ℕ OutputTooSmall → Result ℕ LevelError
+level_shown (Ok k) = Ok k
+level_shown (Err e) = Err levels.OutputTooSmall
 
 -- "a refusal changes no state and no buffer"
 unfoldable pub level_read : Option ViewError → Shows → List ℕ → List ℕ → LevelRead
-level_read (Some e) w sc out = leaves (levels.Refused e) sc out
-level_read None w sc out = leaves (levels.Shown w.answer) w.scratch w.out
+level_read (Some e) w sc out = leaves (Err (levels.View e)) sc out
+level_read None w sc out = leaves (level_shown w.answer) w.scratch w.out
 
 -- 2: "scratch under max_orders"
 abbrev pub scratch_short : BookReconstructor → List ℕ → Bool
@@ -103,21 +111,26 @@ l2 top b mem sc s out = read_of top b mem sc (levels_content l2_words s (orders_
 -- ---- the read of an invalid book
 
 pub record StaleRead : Type 0 where
-  pub answer : StaleAnswer
+  pub answer : Result (Option ℕ) StaleError
   pub scratch : List ℕ
   pub out : List ℕ
 
-abbrev pub leaves_stale : StaleAnswer → List ℕ → List ℕ → StaleRead
+abbrev pub leaves_stale : Result (Option ℕ) StaleError → List ℕ → List ℕ → StaleRead
 leaves_stale a sc out = record { answer = a; scratch = sc; out = out }
+
+-- how many levels there are, or 7
+abbrev pub stale_shown : Result ℕ OutputTooSmall → Result (Option ℕ) StaleError
+stale_shown (Ok k) = Ok (Some k)
+stale_shown (Err e) = Err stales.OutputTooSmall
 
 -- "`stale_l2` is a level read with 1, 2, 3 and last 7; unless invalid it answers none and writes nothing, scratch included"
 abbrev pub stale_standing : Status → Shows → List ℕ → List ℕ → StaleRead
-stale_standing statuses.Empty w sc out = leaves_stale stales.NotStale sc out
-stale_standing (statuses.Valid last) w sc out = leaves_stale stales.NotStale sc out
-stale_standing (statuses.Invalidated i) w sc out = leaves_stale (stales.Shown w.answer) w.scratch w.out
+stale_standing statuses.Empty w sc out = leaves_stale (Ok None) sc out
+stale_standing (statuses.Valid last) w sc out = leaves_stale (Ok None) sc out
+stale_standing (statuses.Invalidated i) w sc out = leaves_stale (stale_shown w.answer) w.scratch w.out
 
 unfoldable pub stale_read : Option StateError → Status → Shows → List ℕ → List ℕ → StaleRead
-stale_read (Some e) s w sc out = leaves_stale (stales.Unusable e) sc out
+stale_read (Some e) s w sc out = leaves_stale (Err (stales.Unusable e)) sc out
 stale_read None s w sc out = stale_standing s w sc out
 
 abbrev pub stale_l2 : ℕ → BookReconstructor → Memory → List ℕ → L3Side → List ℕ → StaleRead

@@ -1,10 +1,14 @@
-// What the level reads share: their answers, and the words that each shows. Scratch and output are written only once 7 is out.
+// What the level reads share: their errors, and the words that each shows. Scratch and output are written only once 7 is out.
 #![tactic(auto)]
 
 ghost use Rattle.std.specs.Prelude.{◌≡◌, false, ◌≤◌, length};
 ghost use Rattle.book.specs.Rows.{Lent};
 ghost use Rattle.book.specs.Memory.{memory, orders_of};
 ghost use Rattle.book.specs.Broken.{some_row_broken};
+ghost use Rattle.reconstructor_reads.specs.declared.LevelError.TheVariants.{View};
+ghost use Rattle.reconstructor_reads.specs.declared.LevelError.TheVariants as levels;
+ghost use Rattle.reconstructor_reads.specs.declared.StaleError.TheVariants.{Unusable};
+ghost use Rattle.reconstructor_reads.specs.declared.StaleError.TheVariants as stales;
 ghost use Rattle.reconstructor_reads.specs.LevelReads.{profile_words, l2_words, queue_content, levels_content, shows, shown};
 
 use book_queue::EntryForm;
@@ -17,30 +21,57 @@ pub const PROFILE_WORDS: usize = 3;
 
 pub const L2_WORDS: usize = 2;
 
-// How many entries were written, or 7.
+// The entries have no room in the lent output: 7.
 #[derive(Clone, Copy)]
-pub enum Shown {
-    Entries(usize),
+pub struct OutputTooSmall;
+
+// Why a read of a valid book's levels shows nothing.
+#[derive(Clone, Copy)]
+pub enum LevelError {
+    View(ViewError),
     OutputTooSmall,
 }
 
-// The answer of a read of a valid book.
+// Why `stale_l2` shows nothing.
 #[derive(Clone, Copy)]
-pub enum LevelAnswer {
-    Shown(Shown),
-    Refused(ViewError),
-}
-
-// The answer of `stale_l2`.
-#[derive(Clone, Copy)]
-pub enum StaleAnswer {
-    // The book is not invalid: there is nothing stale to show.
-    NotStale,
-    Shown(Shown),
+pub enum StaleError {
     Unusable(StateError),
+    OutputTooSmall,
 }
 
-// Shows the orders at a side and price.
+impl From<ViewError> for LevelError {
+    ghost from_gives = { λ why error. error ≡ View why };
+
+    fn from(why: ViewError) -> LevelError {
+        LevelError::View(why)
+    }
+}
+
+impl From<OutputTooSmall> for LevelError {
+    ghost from_gives = { λ _ error. error ≡ levels.OutputTooSmall };
+
+    fn from(_: OutputTooSmall) -> LevelError {
+        LevelError::OutputTooSmall
+    }
+}
+
+impl From<StateError> for StaleError {
+    ghost from_gives = { λ why error. error ≡ Unusable why };
+
+    fn from(why: StateError) -> StaleError {
+        StaleError::Unusable(why)
+    }
+}
+
+impl From<OutputTooSmall> for StaleError {
+    ghost from_gives = { λ _ error. error ≡ stales.OutputTooSmall };
+
+    fn from(_: OutputTooSmall) -> StaleError {
+        StaleError::OutputTooSmall
+    }
+}
+
+// Shows the orders at a side and price, and says how many there are.
 pub fn show_queue(
     rows: &[u64],
     n: usize,
@@ -49,20 +80,20 @@ pub fn show_queue(
     side: L3Side,
     price: u64,
     out: &mut [u64],
-) -> Shown
+) -> Result<usize, OutputTooSmall>
     requires { Lent rows.now n × (max_orders ≤ length scratch.old) }
     ensures { shows result scratch.new out.new ≡ shown max_orders (queue_content side price (orders_of (memory rows.now) n)) scratch.old out.old }
 {
     let count = book_orders::order_count(rows, n, side, price);
     if out.len() < book_queue::QUEUE_WORDS * count {
-        return Shown::OutputTooSmall;
+        return Err(OutputTooSmall);
     }
     book_orders::write_orders(rows, n, side, price, EntryForm::Queue, out);
     book_scratch::clear(scratch, max_orders);
-    Shown::Entries(count)
+    Ok(count)
 }
 
-// Shows the levels of a side, `width` words each.
+// Shows the levels of a side, `width` words each, and says how many there are.
 pub fn show_levels(
     rows: &[u64],
     n: usize,
@@ -71,7 +102,7 @@ pub fn show_levels(
     side: L3Side,
     width: usize,
     out: &mut [u64],
-) -> Shown
+) -> Result<usize, OutputTooSmall>
     requires lent { Lent rows.now n × (some_row_broken (orders_of (memory rows.now) n) ≡ false) }
     requires n_le_max_orders { (n ≤ max_orders) × (max_orders ≤ length scratch.old) }
     requires l2words_le_width { (l2_words ≤ width) × (width ≤ profile_words) }
@@ -79,8 +110,8 @@ pub fn show_levels(
 {
     let count = book_keys::side_level_count(rows, n, side);
     if out.len() < width * count {
-        return Shown::OutputTooSmall;
+        return Err(OutputTooSmall);
     }
     book_walk::write_levels(rows, n, side, width, scratch, max_orders, out);
-    Shown::Entries(count)
+    Ok(count)
 }

@@ -9,7 +9,7 @@ ghost use Rattle.reconstructor_reads.specs.LevelReads.{leaves, priority_profile,
 ghost use Rattle.reconstructor_reads.specs.Numbers.{level_told};
 
 use message::L3Side;
-use reconstructor_reads::{L2_WORDS, LevelAnswer, PROFILE_WORDS};
+use reconstructor_reads::{L2_WORDS, LevelError, PROFILE_WORDS};
 use reconstructor_reads_side::level_read;
 use reconstructor_state::{BookReconstructor, VenueRules};
 
@@ -20,7 +20,7 @@ pub fn priority_profile(
     scratch: &mut [u64],
     side: L3Side,
     out: &mut [u64],
-) -> LevelAnswer
+) -> Result<usize, LevelError>
     ensures out_after { leaves result scratch.new out.new ≡ priority_profile ceiling book (memory rows.now) scratch.old side out.old }
     ensures told { level_told result ≡ level_told (priority_profile ceiling book (memory rows.now) scratch.old side out.old).answer }
 {
@@ -34,7 +34,7 @@ pub fn priority_profile_under(
     scratch: &mut [u64],
     side: L3Side,
     out: &mut [u64],
-) -> LevelAnswer
+) -> Result<usize, LevelError>
     requires { top ≤ most_rows }
     ensures { leaves result scratch.new out.new ≡ priority_profile top book (memory rows.now) scratch.old side out.old }
 {
@@ -48,7 +48,7 @@ pub fn l2(
     scratch: &mut [u64],
     side: L3Side,
     out: &mut [u64],
-) -> LevelAnswer
+) -> Result<usize, LevelError>
     ensures out_after { leaves result scratch.new out.new ≡ l2 ceiling book (memory rows.now) scratch.old side out.old }
     ensures told { level_told result ≡ level_told (l2 ceiling book (memory rows.now) scratch.old side out.old).answer }
 {
@@ -62,7 +62,7 @@ pub fn l2_under(
     scratch: &mut [u64],
     side: L3Side,
     out: &mut [u64],
-) -> LevelAnswer
+) -> Result<usize, LevelError>
     requires { top ≤ most_rows }
     ensures { leaves result scratch.new out.new ≡ l2 top book (memory rows.now) scratch.old side out.old }
 {

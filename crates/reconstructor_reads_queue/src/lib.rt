@@ -9,7 +9,7 @@ ghost use Rattle.reconstructor_reads.specs.LevelReads.{leaves, level_queue};
 ghost use Rattle.reconstructor_reads.specs.Numbers.{level_told};
 
 use message::L3Side;
-use reconstructor_reads::{LevelAnswer, show_queue};
+use reconstructor_reads::{LevelError, show_queue};
 use reconstructor_state::{BookReconstructor, VenueRules};
 
 // The orders of one level in queue order: id high, id low, remaining, whether its open was observed, and where.
@@ -20,7 +20,7 @@ pub fn level_queue(
     side: L3Side,
     price: i64,
     out: &mut [u64],
-) -> LevelAnswer
+) -> Result<usize, LevelError>
     ensures out_after { leaves result scratch.new out.new ≡ level_queue ceiling book (memory rows.now) scratch.old side price out.old }
     ensures told { level_told result ≡ level_told (level_queue ceiling book (memory rows.now) scratch.old side price out.old).answer }
 {
@@ -35,15 +35,14 @@ pub fn level_queue_under(
     side: L3Side,
     price: i64,
     out: &mut [u64],
-) -> LevelAnswer
+) -> Result<usize, LevelError>
     requires { top ≤ most_rows }
     ensures { leaves result scratch.new out.new ≡ level_queue top book (memory rows.now) scratch.old side price out.old }
 {
     let rules = book.rules;
     let most = rules.max_orders;
     let at = message::amount::size_of(price);
-    match reconstructor_view::valid_book(top, book, rows, scratch.len() < most) {
-        Err(why) => LevelAnswer::Refused(why),
-        Ok(_) => { LevelAnswer::Shown(show_queue(rows, book.rows, scratch, most, side, at, out)) }
-    }
+    let _ = reconstructor_view::valid_book(top, book, rows, scratch.len() < most)?;
+    let count = show_queue(rows, book.rows, scratch, most, side, at, out)?;
+    Ok(count)
 }

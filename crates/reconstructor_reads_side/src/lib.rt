@@ -7,10 +7,10 @@ ghost use Rattle.book.specs.Memory.{memory, orders_of};
 ghost use Rattle.reconstructor_reads.specs.LevelReads.{profile_words, l2_words, levels_content, read_of, leaves};
 
 use message::L3Side;
-use reconstructor_reads::{LevelAnswer, show_levels};
+use reconstructor_reads::{LevelError, show_levels};
 use reconstructor_state::BookReconstructor;
 
-// Shows the levels of a side of a valid book, `width` words each.
+// Shows the levels of a side of a valid book, `width` words each, and says how many there are.
 pub fn level_read(
     top: usize,
     book: BookReconstructor,
@@ -19,16 +19,13 @@ pub fn level_read(
     side: L3Side,
     width: usize,
     out: &mut [u64],
-) -> LevelAnswer
+) -> Result<usize, LevelError>
     requires { (top ≤ most_rows) × ((l2_words ≤ width) × (width ≤ profile_words)) }
     ensures { leaves result scratch.new out.new ≡ read_of top book (memory rows.now) scratch.old (levels_content width side (orders_of (memory rows.now) book.rows)) out.old }
 {
     let rules = book.rules;
     let most = rules.max_orders;
-    match reconstructor_view::valid_book(top, book, rows, scratch.len() < most) {
-        Err(why) => LevelAnswer::Refused(why),
-        Ok(_) => {
-            LevelAnswer::Shown(show_levels(rows, book.rows, scratch, most, side, width, out))
-        }
-    }
+    let _ = reconstructor_view::valid_book(top, book, rows, scratch.len() < most)?;
+    let count = show_levels(rows, book.rows, scratch, most, side, width, out)?;
+    Ok(count)
 }

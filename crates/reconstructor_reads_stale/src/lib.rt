@@ -9,17 +9,17 @@ ghost use Rattle.reconstructor_reads.specs.LevelReads.{leaves_stale, stale_l2};
 ghost use Rattle.reconstructor_reads.specs.Numbers.{stale_told};
 
 use message::L3Side;
-use reconstructor_reads::{L2_WORDS, StaleAnswer, show_levels};
+use reconstructor_reads::{L2_WORDS, StaleError, show_levels};
 use reconstructor_state::{BookReconstructor, Status, VenueRules};
 
-// The last good book's aggregated sizes while invalidated: a stale diagnostic, never a valid view.
+// The last good book's aggregated sizes while invalidated: a stale diagnostic, never a valid view. There is none of a book that is not invalid.
 pub fn stale_l2(
     book: BookReconstructor,
     rows: &[u64],
     scratch: &mut [u64],
     side: L3Side,
     out: &mut [u64],
-) -> StaleAnswer
+) -> Result<Option<usize>, StaleError>
     ensures out_after { leaves_stale result scratch.new out.new ≡ stale_l2 ceiling book (memory rows.now) scratch.old side out.old }
     ensures told { stale_told result ≡ stale_told (stale_l2 ceiling book (memory rows.now) scratch.old side out.old).answer }
 {
@@ -33,24 +33,20 @@ pub fn stale_l2_under(
     scratch: &mut [u64],
     side: L3Side,
     out: &mut [u64],
-) -> StaleAnswer
+) -> Result<Option<usize>, StaleError>
     requires { top ≤ most_rows }
     ensures { leaves_stale result scratch.new out.new ≡ stale_l2 top book (memory rows.now) scratch.old side out.old }
 {
     let rules = book.rules;
     let most = rules.max_orders;
-    match reconstructor_view::read_checks(top, book, rows, scratch.len() < most) {
-        Err(why) => StaleAnswer::Unusable(why),
-        Ok(()) => {
-            let status = book.status;
-            match status {
-                Status::Empty => StaleAnswer::NotStale,
-                Status::Valid { .. } => StaleAnswer::NotStale,
-                Status::Invalidated(_) => {
-                    let n = book.rows;
-                    StaleAnswer::Shown(show_levels(rows, n, scratch, most, side, L2_WORDS, out))
-                }
-            }
+    reconstructor_view::read_checks(top, book, rows, scratch.len() < most)?;
+    let status = book.status;
+    match status {
+        Status::Empty => Ok(None),
+        Status::Valid { .. } => Ok(None),
+        Status::Invalidated(_) => {
+            let count = show_levels(rows, book.rows, scratch, most, side, L2_WORDS, out)?;
+            Ok(Some(count))
         }
     }
 }

@@ -1,4 +1,0 @@
-use Rattle.reconstructor_reads_levels.proofs.l2_under.Goals as goal
-
-pub returns : goal.returns
-returns c = c.level_read.ensures
