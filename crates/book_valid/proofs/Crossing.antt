@@ -1,13 +1,14 @@
 -- Among sound rows, the best buy is at or above the best sell exactly where the numbers of one pass say so.
 -- Assumes nothing.
 use Rattle.std.specs.Prelude.{Option, Some, None}
-use Prim.Native.Nat.{ℕ, suc, ◌≤◌}
+use Prim.Native.Nat.{ℕ, suc, ◌≤◌, max, min}
+use Rattle.std.proofs.lemmas.Bool.Decides.{nat_tests}
 use mathlib.Core.Path.{◌≡◌, refl, sym, ap, ap₂, ◌∙◌}
 use mathlib.Core.Bool.{Bool, true, false, ◌||◌, cond}
 use mathlib.Core.List.{List, [], ◌∷◌}
 use native.Mathlib.Omega.{arith}
-use lib.Dec.{ltb, leb}
-use borrow.Author.Tests.{lt-ltb, lt-leb, ltb-false}
+use lib.Dec.{leb}
+use borrow.Author.Tests.{lt-leb}
 use Rattle.laws.proofs.Bools.{or_no}
 use Rattle.message.specs.declared.L3Side.{L3Side}
 use Rattle.message.specs.declared.L3Side.TheVariants.{Buy, Sell}
@@ -18,7 +19,6 @@ use Rattle.book.specs.Rows.{side_of, line_of}
 use Rattle.message.specs.Values.{amount_limit}
 use Rattle.book.specs.Broken.{row_broken, some_row_broken}
 use Rattle.book.proofs.Kept.{InRange, sound_row}
-use Rattle.book_valid.specs.Screen.{raise, lower}
 
 -- a best price as a number
 abbrev or-zero : Option ℕ → ℕ
@@ -52,36 +52,32 @@ ranged s (o ∷ os) h = go (same_side (side_of o.kind) s) (ranged s os d.1)
     go true ih = ranged-better s o.price (best s (line_of os)) (sound_row o d.0).price ih
     go false ih = ih
 
-raise-better : (p : ℕ) (b : Option ℕ) → cond (ltb (or-zero b) p) p (or-zero b) ≡ or-zero (better Buy p b)
-raise-better p None = go (ltb 0 p) refl
-  where
-    go : (t : Bool) → ltb 0 p ≡ t → cond t p 0 ≡ p
-    go true e = refl
-    go false e = omega (arith, ltb-false 0 p e)
-raise-better p (Some q) = refl
+max_better : (p : ℕ) (b : Option ℕ) → max (or-zero b) p ≡ or-zero (better Buy p b)
+max_better p None = omega arith
+max_better p (Some q) = grind (arith, nat_tests)
 
-lower-better : (p : ℕ) (b : Option ℕ) → p ≤ amount_limit → cond (ltb p (or_above b)) p (or_above b) ≡ or_above (better Sell p b)
-lower-better p None h = rw (lt-ltb p (suc amount_limit) (omega arith))
-lower-better p (Some q) h = refl
+min_better : (p : ℕ) (b : Option ℕ) → p ≤ amount_limit → min (or_above b) p ≡ or_above (better Sell p b)
+min_better p None h = omega arith
+min_better p (Some q) h = grind (arith, nat_tests)
 
 -- the highest price of a buy, or 0
 abbrev pub highest : List Resting → ℕ
 highest [] = 0
-highest (o ∷ os) = raise (highest os) o
+highest (o ∷ os) = cond (same_side (side_of o.kind) Buy) (max (highest os) o.price) (highest os)
 
 -- the lowest price of a sell, or one above all
 abbrev pub lowest : List Resting → ℕ
 lowest [] = suc amount_limit
-lowest (o ∷ os) = lower (lowest os) o
+lowest (o ∷ os) = cond (same_side (side_of o.kind) Sell) (min (lowest os) o.price) (lowest os)
 
 highest_is : (os : List Resting) → highest os ≡ or-zero (best Buy (line_of os))
 highest_is [] = refl
 highest_is (o ∷ os) = rw (highest_is os) (go (same_side (side_of o.kind) Buy))
   where
     go : (t : Bool)
-        → cond t (cond (ltb (or-zero (best Buy (line_of os))) o.price) o.price (or-zero (best Buy (line_of os)))) (or-zero (best Buy (line_of os)))
+        → cond t (max (or-zero (best Buy (line_of os))) o.price) (or-zero (best Buy (line_of os)))
         ≡ or-zero (cond t (better Buy o.price (best Buy (line_of os))) (best Buy (line_of os)))
-    go true = raise-better o.price (best Buy (line_of os))
+    go true = max_better o.price (best Buy (line_of os))
     go false = refl
 
 lowest_is : (os : List Resting) → some_row_broken os ≡ false → lowest os ≡ or_above (best Sell (line_of os))
@@ -92,9 +88,9 @@ lowest_is (o ∷ os) h = rw (lowest_is os d.1) (go (same_side (side_of o.kind) S
     d = or_no (row_broken o) (some_row_broken os) h
 
     go : (t : Bool)
-        → cond t (cond (ltb o.price (or_above (best Sell (line_of os)))) o.price (or_above (best Sell (line_of os)))) (or_above (best Sell (line_of os)))
+        → cond t (min (or_above (best Sell (line_of os))) o.price) (or_above (best Sell (line_of os)))
         ≡ or_above (cond t (better Sell o.price (best Sell (line_of os))) (best Sell (line_of os)))
-    go true = lower-better o.price (best Sell (line_of os)) (sound_row o d.0).price.high
+    go true = min_better o.price (best Sell (line_of os)) (sound_row o d.0).price.high
     go false = refl
 
 meet_is : (b a : Option ℕ) → Ranged b → Ranged a → meet b a ≡ leb (or_above a) (or-zero b)

@@ -4,8 +4,7 @@
 ghost use Rattle.std.specs.Prelude.{◌≡◌, ◌||◌};
 ghost use Rattle.book.specs.Line.{crossed};
 ghost use Rattle.book.specs.Rows.{Lent, rows_of, line_of};
-ghost use Rattle.book.specs.Broken.{row_broken, some_row_broken, words_broken};
-ghost use Rattle.book_valid.specs.Screen.{raise, lower};
+ghost use Rattle.book.specs.Broken.{out_of_range, row_broken, some_row_broken, words_broken};
 
 use book::Resting;
 use message::L3Side;
@@ -21,38 +20,22 @@ pub enum AuditFinding {
     Crossed,
 }
 
+// The largest price or size.
+const LIMIT: u64 = message::AMOUNT_LIMIT as u64;
+
+fn out_of_range(amount: u64) -> bool
+    ensures { result ≡ out_of_range amount }
+{
+    !(1..=LIMIT).contains(&amount)
+}
+
 // Whether a row breaks a rule by itself.
+#[tactic(auto, unfolding(book::specs::Broken::row_broken))]
 fn row_broken(o: Resting) -> bool
     ensures { result ≡ row_broken o }
 {
-    (o.kind > 3)
-        | (((o.price == 0) | (o.price > 1000000000000000))
-            | (((o.remaining == 0) | (o.remaining > 1000000000000000))
-                | ((o.decreased > 1) | ((o.decreased == 0) & (o.decreased_at != 0)))))
-}
-
-// The highest price of a buy so far, 0 for none, with one row more.
-fn raised(bid: u64, o: Resting) -> u64
-    ensures { result ≡ raise bid o }
-{
-    if message::same_side(book::side_of(o.kind), L3Side::Buy) {
-        if bid < o.price {
-            return o.price;
-        }
-    }
-    bid
-}
-
-// The lowest price of a sell so far, one above all for none, with one row more.
-fn lowered(ask: u64, o: Resting) -> u64
-    ensures { result ≡ lower ask o }
-{
-    if message::same_side(book::side_of(o.kind), L3Side::Sell) {
-        if o.price < ask {
-            return o.price;
-        }
-    }
-    ask
+    let flag_broken = (o.decreased > 1) | ((o.decreased == 0) & (o.decreased_at != 0));
+    (o.kind > 3) | (out_of_range(o.price) | (out_of_range(o.remaining) | flag_broken))
 }
 
 // Whether a row breaks a rule by itself, or the best buy is at or above the best sell: one pass.
@@ -61,16 +44,16 @@ fn screened(rows: &[u64], n: usize) -> bool
     ensures { result ≡ (some_row_broken (rows_of rows.now n) || crossed (line_of (rows_of rows.now n))) }
 {
     let mut bid: u64 = 0;
-    let mut ask: u64 = 1000000000000001;
-    let mut i = n;
-    while 0 < i {
-        i -= 1;
+    let mut ask: u64 = LIMIT + 1;
+    for i in (0..n).rev() {
         let o = book::get_row(rows, i);
         if row_broken(o) {
             return true;
         }
-        bid = raised(bid, o);
-        ask = lowered(ask, o);
+        match book::side_of(o.kind) {
+            L3Side::Buy => bid = bid.max(o.price),
+            L3Side::Sell => ask = ask.min(o.price),
+        }
     }
     ask <= bid
 }

@@ -14,21 +14,28 @@ use Rattle.book_valid.proofs.Crossing.{highest, lowest, crossed_is}
 use Rattle.book_valid.proofs.screened.Goals as goal
 
 pub loop-i-init : goal.loop-i-init
-loop-i-init c = (omega arith, rw (rows-done c.args.rows.now c.args.n c.args.n (omega arith)), rw (rows-done c.args.rows.now c.args.n c.args.n (omega arith)), rw (rows-done c.args.rows.now c.args.n c.args.n (omega arith)))
+loop-i-init c = let none = rows-done c.args.rows.now c.args.n c.args.n (omega arith) in (rw none, rw none, rw none)
 
 pub returns-then-row_broken : goal.returns-then-row_broken
 returns-then-row_broken c =
     let here : some_row_broken (rows_from c.args.rows.now (c.loop-i.i - 1) (c.args.n - (c.loop-i.i - 1))) ≡ true =
-    rw (rows_prev c.args.rows.now c.args.n c.loop-i.i (c.loop-i.i - 1) c.get_row-o.result (omega arith) c.loop-i.invariant.0 c.get_row-o.ensures, ← c.row_broken.ensures, c.if-row_broken.true) in
+    rw (rows_prev c.args.rows.now c.args.n c.loop-i.i (c.loop-i.i - 1) c.get_row-o.result (omega arith) (omega arith) c.get_row-o.ensures, ← c.row_broken.ensures, c.if-row_broken.true) in
     rw (broken-from c.args.rows.now c.args.n (c.loop-i.i - 1) (omega arith) here)
+
+pub loop-i-preserved-in-Buy : goal.loop-i-preserved-in-Buy
+loop-i-preserved-in-Buy c =
+    let next = rows_prev c.args.rows.now c.args.n c.loop-i.i (c.loop-i.i - 1) c.get_row-o.result (omega arith) (omega arith) c.get_row-o.ensures in (
+      rw (next, c.max-bid.ensures, c.loop-i.invariant.0, ← c.side_of.ensures, c.in-Buy.is),
+      rw (next, c.loop-i.invariant.1, ← c.side_of.ensures, c.in-Buy.is),
+      rw (next, ← c.row_broken.ensures, c.if-row_broken.false) c.loop-i.invariant.2,
+    )
 
 pub loop-i-preserved : goal.loop-i-preserved
 loop-i-preserved c =
-    let next = rows_prev c.args.rows.now c.args.n c.loop-i.i (c.loop-i.i - 1) c.get_row-o.result (omega arith) c.loop-i.invariant.0 c.get_row-o.ensures in (
-      omega arith,
-      rw (next, c.raised-bid.ensures, c.loop-i.invariant.1),
-      rw (next, c.lowered-ask.ensures, c.loop-i.invariant.2),
-      rw (next, ← c.row_broken.ensures, c.if-row_broken.false) c.loop-i.invariant.3,
+    let next = rows_prev c.args.rows.now c.args.n c.loop-i.i (c.loop-i.i - 1) c.get_row-o.result (omega arith) (omega arith) c.get_row-o.ensures in (
+      rw (next, c.loop-i.invariant.0, ← c.side_of.ensures, c.in-Sell.is),
+      rw (next, c.min-ask.ensures, c.loop-i.invariant.1, ← c.side_of.ensures, c.in-Sell.is),
+      rw (next, ← c.row_broken.ensures, c.if-row_broken.false) c.loop-i.invariant.2,
     )
 
 pub returns : goal.returns
@@ -36,5 +43,5 @@ returns c =
     let z : c.loop-i.i ≡ 0 = omega arith in
     let os = rows_of c.args.rows.now c.args.n in
     let all : rows_from c.args.rows.now c.loop-i.i (c.args.n - c.loop-i.i) ≡ os = rw (z, sub-zero) in
-    let sound : some_row_broken os ≡ false = ap some_row_broken (sym all) ∙ c.loop-i.invariant.3 in
-    ap₂ leb (c.loop-i.invariant.2 ∙ ap lowest all) (c.loop-i.invariant.1 ∙ ap highest all) ∙ sym (rw sound (crossed_is os sound))
+    let sound : some_row_broken os ≡ false = ap some_row_broken (sym all) ∙ c.loop-i.invariant.2 in
+    ap₂ leb (c.loop-i.invariant.1 ∙ ap lowest all) (c.loop-i.invariant.0 ∙ ap highest all) ∙ sym (rw sound (crossed_is os sound))
