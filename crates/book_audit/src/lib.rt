@@ -12,15 +12,7 @@ fn some_empty(rows: &[u64], n: usize) -> bool
     requires { Lent rows.now n }
     ensures { result ≡ some_empty (rows_of rows.now n) }
 {
-    let mut i: usize = 0;
-    while i < n {
-        let o = book::get_row(rows, i);
-        if o.remaining == 0 {
-            return true;
-        }
-        i += 1;
-    }
-    false
+    (0..n).any(|i| book::get_row(rows, i).remaining == 0)
 }
 
 // Recomputes the book's invariants: positive sizes, each id once, not crossed.

@@ -1,20 +1,18 @@
--- The loop keeps that some row is empty exactly where one from `i` on is. So a row with nothing left settles it, one with a rest can be left out, and with no
--- row left none is empty.
+-- The test by place, over the places 0 to below `n`, is the test of the rows.
+use mathlib.Core.Path.{◌∙◌, refl}
+use lib.Dec.{eqb}
 use native.Mathlib.Nat.{sub-zero}
-use native.Mathlib.Omega.{arith}
-use borrow.Author.Rules.{rules}
-use borrow.Author.Tests.{eq-eqb, ne_eqb}
-use Rattle.book.proofs.Rows.{rows_next, rows-done}
+use Rattle.std.proofs.Common.{rules, tests}
+use Rattle.std.proofs.lemmas.Iterator.{YieldsList-from_range}
+use Rattle.std.proofs.lemmas.Iterator.Search.{any_from_yields_List}
+use Rattle.book.specs.declared.Resting.{Resting}
+use Rattle.book.specs.Rows.{row_at}
+use Rattle.book.proofs.Rows.{any_rows}
+use Rattle.book_valid.specs.Audit.{some_empty}
 use Rattle.book_audit.proofs.some_empty.Goals as goal
 
-pub loop-i-init : goal.loop-i-init
-loop-i-init c = (search rules, rw sub-zero)
-
-pub returns-then-o-eq0 : goal.returns-then-o-eq0
-returns-then-o-eq0 c = rw (c.loop-i.invariant.1, rows_next _ _ _ _ c.loop-i-test.true c.get_row-o.ensures, eq-eqb _ _ c.if-o-eq0.true)
-
-pub loop-i-preserved : goal.loop-i-preserved
-loop-i-preserved c = (omega arith, rw (c.loop-i.invariant.1, rows_next _ _ _ _ c.loop-i-test.true c.get_row-o.ensures, ne_eqb _ _ c.if-o-eq0.false))
-
 pub returns : goal.returns
-returns c = rw (c.loop-i.invariant.1, rows-done _ _ _ c.loop-i-test.false)
+returns c =
+    let test = λ (o : Resting). eqb o.remaining 0 in
+    any_from_yields_List (λ i. test (row_at c.args.rows.now i)) _ _ _ c.any.ensures.ran (YieldsList-from_range 0 c.args.n c.args.n refl (sub-zero c.args.n)) (λ x b q k. search (rules, tests))
+    ∙ any_rows test some_empty refl (λ o os. refl) c.args.rows.now 0 c.args.n
