@@ -1,16 +1,17 @@
 -- What the tests of a piece tell of it, and the orders of a snapshot one by one.
 -- Assumes nothing.
 use Rattle.std.specs.Prelude.{Option, Some, None}
-use Prim.Native.Nat.{ℕ, suc, ◌+◌, ◌*◌, ◌-◌, ◌≤◌, ◌<◌}
+use Prim.Native.Nat.{ℕ, zero, suc, ◌+◌, ◌*◌, ◌≤◌, ◌<◌}
 use native.Mathlib.Omega.{arith}
-use mathlib.Core.Path.{◌≡◌, refl}
+use mathlib.Core.Path.{◌≡◌, refl, ap}
 use mathlib.Core.Bool.{Bool, true, false, cond, ◌&&◌}
-use mathlib.Core.List.{List, [], ◌∷◌}
+use mathlib.Core.List.{List}
 use borrow.Author.Tests.{eqb-true, ne_eqb}
 use lib.Dec.{eqb}
 use lib.ListN.{length, get_or}
+use Rattle.std.specs.List.{list_all, range_with_len}
+use Rattle.message.specs.Values.{order_in_range, orders_in_range}
 use Rattle.message.specs.declared.L3Event.{L3Event}
-use Rattle.message.specs.declared.SnapshotOrder.{SnapshotOrder}
 use Rattle.piece.specs.Piece.{event_if, read_received, read_open, read_done, read_match, read_change, read_unsupported, read_event, bids_at, asks_at, snapshot_shaped, order_at, orders_from}
 use Rattle.laws.proofs.Bools.{and_yes}
 
@@ -69,17 +70,14 @@ short s h = go (read_event s) refl
     go None q = refl
     go (Some e) q = absurd (omega (arith, event-long s e q))
 
-pub short-snapshot : (s : List ℕ) → length s < 41 → snapshot_shaped s ≡ false
+pub short_snapshot : (s : List ℕ) → length s < 41 → snapshot_shaped s ≡ false
 unfolding snapshot_shaped
-short-snapshot s h = rw (ne_eqb (length s) (41 + 32 * (bids_at s + asks_at s)) (λ e. omega arith))
+short_snapshot s h = rw (ne_eqb (length s) (41 + 32 * (bids_at s + asks_at s)) (λ e. omega arith))
 
 -- ---- the orders from a place on
 
-pub orders-next : (s : List ℕ) (n i : ℕ) (o : SnapshotOrder) → i < n → o ≡ order_at s i →
-    orders_from s i (n - i) ≡ o ∷ orders_from s (i + 1) (n - (i + 1))
-unfolding orders_from
-orders-next s n i o h e = let k : n - i ≡ suc (n - (i + 1)) = omega arith in rw (e, k)
-
-pub orders-done : (s : List ℕ) (n i : ℕ) → n ≤ i → orders_from s i (n - i) ≡ []
-unfolding orders_from
-orders-done s n i h = let k : n - i ≡ 0 = omega arith in rw k
+-- the orders from a place on are in range where the order at each of their places is
+pub orders_all : (s : List ℕ) (i k : ℕ) → list_all (λ j. order_in_range (order_at s j)) (range_with_len i k) ≡ orders_in_range (orders_from s i k)
+unfolding orders_from orders_in_range
+orders_all s i zero = refl
+orders_all s i (suc k) = ap (λ b. order_in_range (order_at s i) && b) (orders_all s (i + 1) k)
