@@ -1,5 +1,6 @@
 -- The call's number tells a length from 7: every listing has the word `counts` and twelve numbers, so none has length 7.
 -- Assumes nothing.
+use Rattle.std.specs.Prelude.{Option, Some}
 use Prim.Native.Nat.{ℕ, ◌*◌, ◌≤◌, ◌<◌}
 use native.Mathlib.Omega.{arith}
 use mathlib.Core.Path.{◌≡◌, refl, ap, ◌∙◌}
@@ -17,7 +18,6 @@ use Rattle.reconstructor_counts.specs.Counts.{no_counts}
 use Rattle.daybook_file.specs.DayFile.{day_shaped}
 use Rattle.daybook_segments.specs.declared.Day.{Day}
 use Rattle.daybook_segments.specs.declared.Stop.{Stop}
-use Rattle.daybook_segments.specs.declared.Stop.TheVariants.{At}
 use Rattle.daybook_replay.specs.Replay.{day_of}
 use Rattle.daybook_lines.specs.Listed.{counts_in, counts_word, counts_line, stop_line, ending, segment_lines, listed}
 use Rattle.daybook.specs.Listing.{not_a_day_file, listing, ReplayCall, replay_called, replay_call}
@@ -27,7 +27,7 @@ numbers-long : (ns : List ℕ) → 2 * length ns ≤ length (spaced (map decimal
 numbers-long [] = omega arith
 numbers-long (n ∷ ns) = rw (length-append (decimal n) (spaced (map decimal ns))) (omega (arith, numbers-long ns, decimal-some n))
 
-ending-long : (c : MessageCounts) (stop : Stop) → 31 ≤ length (ending c stop)
+ending-long : (c : MessageCounts) (stop : Option Stop) → 31 ≤ length (ending c stop)
 unfolding ending counts_line
 ending-long c stop =
     rw (length-append (counts_word ++ (spaced (map decimal (counts_in c)) ++ (10 ∷ []))) (stop_line stop), length-append (spaced (map decimal (counts_in c))) (10 ∷ []))
@@ -42,9 +42,9 @@ pub listing-long : (f : List ℕ) → 31 ≤ length (listing f)
 unfolding listing
 listing-long f = go (day_shaped f)
   where
-    go : (b : Bool) → 31 ≤ length (cond b (listed (day_of f)) (ending no_counts (At 0 not_a_day_file)))
+    go : (b : Bool) → 31 ≤ length (cond b (listed (day_of f)) (ending no_counts (Some (record { piece = 0; number = not_a_day_file }))))
     go true = listed-long (day_of f)
-    go false = ending-long no_counts (At 0 not_a_day_file)
+    go false = ending-long no_counts (Some (record { piece = 0; number = not_a_day_file }))
 
 -- 7 is said exactly where the slice is shorter than the listing
 pub seven-tells : (f out : List ℕ) → (replay_call f out).number ≡ 7 → length out < length (listing f)

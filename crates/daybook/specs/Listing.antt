@@ -1,8 +1,7 @@
 -- The listing of a day file, and what a host that asks for it gets.
-use Rattle.std.specs.Prelude.{ℕ, cond, List, ◌++◌, ltb, length, drop}
+use Rattle.std.specs.Prelude.{ℕ, cond, List, ◌++◌, ltb, length, drop, Some}
 use Rattle.reconstructor_counts.specs.Counts.{no_counts}
 use Rattle.daybook_file.specs.DayFile.{day_shaped}
-use Rattle.daybook_segments.specs.declared.Stop.TheVariants.{At}
 use Rattle.daybook_replay.specs.Replay.{day_of}
 use Rattle.daybook_lines.specs.Listed.{ending, listed}
 
@@ -12,7 +11,7 @@ not_a_day_file = 60
 
 -- such a one is "listed as zero counts and `stop 0 60` before any piece is read"
 unfoldable pub listing : List ℕ → List ℕ
-listing f = cond (day_shaped f) (listed (day_of f)) (ending no_counts (At 0 not_a_day_file))
+listing f = cond (day_shaped f) (listed (day_of f)) (ending no_counts (Some (record { piece = 0; number = not_a_day_file })))
 
 -- what the call answers, and the host's slice afterwards
 pub record ReplayCall : Type 0 where

@@ -26,10 +26,10 @@ fn list(file: &[u8], text: &mut [u8]) -> usize
     ensures short { result ≤ listing_bytes }
 {
     if !day_shaped(file) {
-        let stop = Stop::At {
+        let stop = Some(Stop {
             piece: 0,
             number: NOT_A_DAY_FILE,
-        };
+        });
         return put_ending(text, 0, MessageCounts::new(), stop);
     }
     put_day(text, replay_day(file))

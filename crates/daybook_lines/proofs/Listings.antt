@@ -1,5 +1,6 @@
 -- The lines of a listing, word by word, and how long a listing is.
 -- Assumes nothing.
+use Rattle.std.specs.Prelude.{Option, Some}
 use Prim.Native.Nat.{ℕ, ◌+◌, ◌*◌, ◌≤◌, ◌<◌}
 use native.Mathlib.Nat.{add-zero, zero-add}
 use native.Mathlib.Numerals.{add-one}
@@ -16,7 +17,6 @@ use Rattle.reconstructor_counts.specs.declared.MessageCounts.{MessageCounts}
 use Rattle.reconstructor_segments.specs.declared.Segment.{Segment}
 use Rattle.reconstructor_segments.specs.Segments.{no_segment, elapsed}
 use Rattle.daybook_segments.specs.declared.Stop.{Stop}
-use Rattle.daybook_segments.specs.declared.Stop.TheVariants.{At}
 use Rattle.daybook_lines.specs.Most.{most_segment}
 use Rattle.daybook_lines.specs.Listed.{segment_word, counts_word, stop_word, end_word, segment_line, segment_lines, counts_in, counts_line, stop_line, ending}
 
@@ -33,11 +33,11 @@ module _ {t t₁ t₂ t₃ t₄ t₅ t₆ t₇ : List ℕ} {a a₁ a₂ a₃ a�
 
 module _ {t t₁ t₂ t₃ t₄ : List ℕ} {a a₁ a₂ a₃ a₄ : ℕ} where
   pub stop-written : (piece number : ℕ) → Writes t a stop_word t₁ a₁ → Writes t₁ a₁ (space ∷ decimal piece) t₂ a₂ → Writes t₂ a₂ (space ∷ decimal number) t₃ a₃ → Writes t₃ a₃ (10 ∷ []) t₄ a₄
-      → Writes t a (stop_line (At piece number)) t₄ a₄
+      → Writes t a (stop_line (Some (record { piece = piece; number = number }))) t₄ a₄
   unfolding stop_line
   stop-written piece number word p n end = writes_then word (writes-word (decimal number ∷ []) p (writes-word [] n end))
 
-  pub ending-written : (c : MessageCounts) (stop : Stop) → Writes t a counts_word t₁ a₁ → Writes t₁ a₁ (spaced (map decimal (counts_in c))) t₂ a₂ → Writes t₂ a₂ (10 ∷ []) t₃ a₃ → Writes t₃ a₃ (stop_line stop) t₄ a₄
+  pub ending-written : (c : MessageCounts) (stop : Option Stop) → Writes t a counts_word t₁ a₁ → Writes t₁ a₁ (spaced (map decimal (counts_in c))) t₂ a₂ → Writes t₂ a₂ (10 ∷ []) t₃ a₃ → Writes t₃ a₃ (stop_line stop) t₄ a₄
       → Writes t a (ending c stop) t₄ a₄
   unfolding ending counts_line
   ending-written c stop word numbers end s = writes_then (writes_then word (writes_then numbers end)) s

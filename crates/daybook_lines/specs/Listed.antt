@@ -1,5 +1,5 @@
 -- The lines of a day's listing, as bytes. 02, paper 1: "It prints lines of decimal numbers with one space between, each ended by byte 10."
-use Rattle.std.specs.Prelude.{ℕ, ◌+◌, cond, List, [], ◌∷◌, ◌++◌, map, eqb, take}
+use Rattle.std.specs.Prelude.{ℕ, ◌+◌, cond, List, [], ◌∷◌, ◌++◌, map, eqb, take, Option, Some, None}
 use Rattle.text.specs.Decimal.{decimal}
 use Rattle.text.specs.Lines.{line}
 use Rattle.reconstructor_counts.specs.declared.MessageCounts.{MessageCounts}
@@ -7,7 +7,6 @@ use Rattle.reconstructor_segments.specs.declared.Segment.{Segment}
 use Rattle.reconstructor_segments.specs.Segments.{elapsed}
 use Rattle.daybook_segments.specs.declared.Day.{Day}
 use Rattle.daybook_segments.specs.declared.Stop.{Stop}
-use Rattle.daybook_segments.specs.declared.Stop.TheVariants.{Never, At}
 
 -- ---- the words, in ASCII
 
@@ -59,11 +58,11 @@ unfoldable pub counts_line : MessageCounts → List ℕ
 counts_line c = line counts_word (map decimal (counts_in c))
 
 -- "then `stop`, piece (from 1) and number if another refusal stopped it"
-unfoldable pub stop_line : Stop → List ℕ
-stop_line Never = []
-stop_line (At piece number) = line stop_word (decimal piece ∷ decimal number ∷ [])
+unfoldable pub stop_line : Option Stop → List ℕ
+stop_line None = []
+stop_line (Some s) = line stop_word (decimal s.piece ∷ decimal s.number ∷ [])
 
-unfoldable pub ending : MessageCounts → Stop → List ℕ
+unfoldable pub ending : MessageCounts → Option Stop → List ℕ
 ending c stop = counts_line c ++ stop_line stop
 
 -- "A line a segment", of those that the book has; then counts and stop

@@ -78,14 +78,14 @@ fn counts_in(counts: MessageCounts) -> [u64; 12]
 }
 
 // Where the replay was stopped, in a line of its own.
-fn put_stop(text: &mut [u8], at: usize, stop: Stop) -> usize
+fn put_stop(text: &mut [u8], at: usize, stop: Option<Stop>) -> usize
     requires { at + most_stop ≤ length text.old }
     ensures writes { Writes text.old at (stop_line stop) text.new result }
     ensures short { result ≤ at + most_stop }
 {
     match stop {
-        Stop::Never => at,
-        Stop::At { piece, number } => {
+        None => at,
+        Some(Stop { piece, number }) => {
             let word = put_bytes(text, at, b"stop");
             let place = put_number(text, word, piece as u64);
             let number = put_number(text, place, number);
@@ -95,7 +95,7 @@ fn put_stop(text: &mut [u8], at: usize, stop: Stop) -> usize
 }
 
 // The counts, and where the replay was stopped.
-pub fn put_ending(text: &mut [u8], at: usize, counts: MessageCounts, stop: Stop) -> usize
+pub fn put_ending(text: &mut [u8], at: usize, counts: MessageCounts, stop: Option<Stop>) -> usize
     requires { at + most_ending ≤ length text.old }
     ensures writes { Writes text.old at (ending counts stop) text.new result }
     ensures short { result ≤ at + most_ending }

@@ -1,5 +1,6 @@
 -- A day, piece by piece: what the loop holds is the standing of the pieces so far, the last record being apart from the list.
 -- Assumes nothing.
+use Rattle.std.specs.Prelude.{Option, Some, None}
 use Prim.Native.Nat.{ℕ, zero, suc, ◌+◌, ◌*◌, ◌-◌, ◌≤◌, ◌<◌}
 use native.Mathlib.Nat.{sub-zero}
 use native.Mathlib.Numerals.{add-one}
@@ -30,7 +31,6 @@ use Rattle.daybook_pieces.proofs.Pieces.{Starts, stays, begins, piece-starts, pu
 use Rattle.daybook_file.specs.DayFile.{piece_count, pieces_from, piece_at, pieces_of, product_of}
 use Rattle.daybook_file.proofs.Days.{pieces-next, pieces_none}
 use Rattle.daybook_segments.specs.declared.Stop.{Stop}
-use Rattle.daybook_segments.specs.declared.Stop.TheVariants.{Never, At}
 use Rattle.daybook_replay.specs.Replay.{day_limit, fresh_rows, fresh_day, is_continued, ended_by, replayed, day_of}
 use Rattle.daybook_replay.specs.ByValue.{ended_with}
 
@@ -156,24 +156,24 @@ loop-start f ps bounds b small e =
     })
 
 -- the last record put back
-ended-with : (b : BookReconstructor) (ws : List ℕ) (sg : List Segment) (g : Segment) (stop : Stop) → length sg ≡ day_segments → ended_with b sg g stop ≡ ended_by (standing_of b ws sg g) stop
+ended-with : (b : BookReconstructor) (ws : List ℕ) (sg : List Segment) (g : Segment) (stop : Option Stop) → length sg ≡ day_segments → ended_with b sg g stop ≡ ended_by (standing_of b ws sg g) stop
 ended-with b ws sg g stop full =
     ap (λ (l : List Segment). record { book = b; segments = l; stop = stop }) (set_out (relast sg b.segments g) day_segments no_segment (omega (arith, length-relast sg b.segments g)))
 
 module _ (f ws₀ ps₀ ws ps : List ℕ) (b : BookReconstructor) (bounds : Bounds) (g : Segment) (sg : List Segment) (i : ℕ) (l : Loops f ws₀ ps₀ ws ps b bounds g sg i) where
   -- with no piece left the day is over
-  pub loop-ends : piece_count f ≤ i → ended_with b sg g Never ≡ day_of f
+  pub loop-ends : piece_count f ≤ i → ended_with b sg g None ≡ day_of f
   unfolding replayed
-  loop-ends h = ended-with b ws sg g Never l.full ∙ sym (l.rest ∙ rw (pieces_none f (piece_count f) i h))
+  loop-ends h = ended-with b ws sg g None l.full ∙ sym (l.rest ∙ rw (pieces_none f (piece_count f) i h))
 
   module _ (vs qs : List ℕ) (t : Turn) (sg' : List Segment) (g' : Segment) (h : i < piece_count f) (a : After (standing_of b ws sg g) (piece_at f i) t vs sg' g') where
     -- the next piece, and what comes after it
-    next : day_of f ≡ cond (is_continued t.number) (replayed (standing_of t.book vs sg' g') (i + 1 + 1) (pieces_from f (i + 1) (piece_count f - (i + 1)))) (ended_by (standing_of t.book vs sg' g') (At (i + 1) t.number))
+    next : day_of f ≡ cond (is_continued t.number) (replayed (standing_of t.book vs sg' g') (i + 1 + 1) (pieces_from f (i + 1) (piece_count f - (i + 1)))) (ended_by (standing_of t.book vs sg' g') (Some (record { piece = (i + 1); number = t.number })))
     unfolding replayed
     next = l.rest ∙ rw (pieces-next f (piece_count f) i h, a.is)
 
-    pub loop-stops : is_continued t.number ≡ false → ended_with t.book sg' g' (At (i + 1) t.number) ≡ day_of f
-    loop-stops q = ended-with t.book vs sg' g' (At (i + 1) t.number) a.full ∙ sym (next ∙ rw q)
+    pub loop-stops : is_continued t.number ≡ false → ended_with t.book sg' g' (Some (record { piece = (i + 1); number = t.number })) ≡ day_of f
+    loop-stops q = ended-with t.book vs sg' g' (Some (record { piece = (i + 1); number = t.number })) a.full ∙ sym (next ∙ rw q)
 
     pub loop-next : is_continued t.number ≡ true → Plays t.book vs qs t.bounds → length vs ≡ length ws → length qs ≡ length ps → Loops f ws₀ ps₀ vs qs t.book t.bounds g' sg' (i + 1)
     loop-next q plays hs hp =

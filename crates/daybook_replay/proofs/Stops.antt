@@ -51,7 +51,6 @@ use Rattle.daybook_pieces.specs.Played.{DayBook, is_snapshot, played}
 use Rattle.daybook_pieces.specs.ByValue.{PlayedTo, by_bootstrap_to, play_message_to, played_to}
 use Rattle.daybook_pieces.proofs.Pieces.{snapshot-usable, put_back, played_put}
 use Rattle.daybook_segments.specs.declared.Stop.{Stop}
-use Rattle.daybook_segments.specs.declared.Stop.TheVariants.{Never, At}
 use Rattle.daybook_replay.specs.Replay.{fresh_day, is_continued, ended_by, replayed, day_of}
 use Rattle.daybook_replay.proofs.Replays.{fresh-usable, length_none}
 use Rattle.message.specs.declared.L3Snapshot.{L3Snapshot}
@@ -195,9 +194,9 @@ module _ (s : DayBook) (bytes : List ℕ) (f : Fit s) where
         full = length-set (relast s.segments s.book.segments turn.segment) turn.at turn.started ∙ length-relast s.segments s.book.segments turn.segment ∙ f.full;
       })
 
-abbrev pub StopsBy : Stop → Type 0
-StopsBy Never = Unit {0}
-StopsBy (At piece number) = Stopping number
+abbrev pub StopsBy : Option Stop → Type 0
+StopsBy None = Unit {0}
+StopsBy (Some s) = Stopping s.number
 
 stops : (ps : List (List ℕ)) (s : DayBook) (k : ℕ) → Fit s → StopsBy (replayed s k ps).stop
 unfolding replayed
@@ -205,7 +204,7 @@ stops [] s k f = tt
 stops (p ∷ ps) s k f = go (is_continued (played s p).number) refl (stops ps (played s p).after (k + 1) (played_fit s p f)) (played-passes s p f)
   where
     go : (x : Bool) → is_continued (played s p).number ≡ x → StopsBy (replayed (played s p).after (k + 1) ps).stop → Passes (played s p).number
-        → StopsBy (cond x (replayed (played s p).after (k + 1) ps) (ended_by (played s p).after (At k (played s p).number))).stop
+        → StopsBy (cond x (replayed (played s p).after (k + 1) ps) (ended_by (played s p).after (Some (record { piece = k; number = (played s p).number })))).stop
     go true e rest passes = rest
     go false e rest passes = passes e
 

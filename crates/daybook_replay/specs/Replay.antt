@@ -1,5 +1,5 @@
 -- A day's replay: the pieces of a day file, in file order, on a fresh book.
-use Rattle.std.specs.Prelude.{ℕ, ◌+◌, ◌*◌, Bool, ◌||◌, ◌&&◌, cond, List, [], ◌∷◌, eqb, leb, replicate}
+use Rattle.std.specs.Prelude.{ℕ, ◌+◌, ◌*◌, Bool, ◌||◌, ◌&&◌, cond, List, [], ◌∷◌, eqb, leb, replicate, Option, Some, None}
 use Rattle.message.specs.declared.ProductId.{ProductId}
 use Rattle.message.specs.Told.{changed}
 use Rattle.book.specs.Rows.{row_words}
@@ -10,7 +10,6 @@ use Rattle.daybook_segments.specs.DaySegments.{no_segments}
 use Rattle.daybook_pieces.specs.Played.{DayBook, played}
 use Rattle.daybook_segments.specs.declared.Day.{Day}
 use Rattle.daybook_segments.specs.declared.Stop.{Stop}
-use Rattle.daybook_segments.specs.declared.Stop.TheVariants.{Never, At}
 
 -- 02, paper 1: "with limits 512 and 512, at most 64 segments, and the first piece's product"
 abbrev pub day_limit : ℕ
@@ -32,14 +31,14 @@ fresh_day product =
 abbrev pub is_continued : ℕ → Bool
 is_continued n = (eqb n 0 || eqb n changed) || (leb 10 n && leb n 17)
 
-abbrev pub ended_by : DayBook → Stop → Day
+abbrev pub ended_by : DayBook → Option Stop → Day
 ended_by s stop = record { book = s.book; segments = s.segments; stop = stop }
 
 -- "Snapshots and messages go in file order", the next piece being the kth, from 1; "piece (from 1) and number if another refusal stopped it"
 unfoldable pub replayed : DayBook → ℕ → List (List ℕ) → Day
-replayed s k [] = ended_by s Never
+replayed s k [] = ended_by s None
 replayed s k (p ∷ ps) =
-    cond (is_continued (played s p).number) (replayed (played s p).after (k + 1) ps) (ended_by (played s p).after (At k (played s p).number))
+    cond (is_continued (played s p).number) (replayed (played s p).after (k + 1) ps) (ended_by (played s p).after (Some (record { piece = k; number = (played s p).number })))
 
 -- of a file that keeps the rules
 unfoldable pub day_of : List ℕ → Day

@@ -35,7 +35,7 @@ fn ended(
     book: BookReconstructor,
     segments: [Segment; DAY_SEGMENTS],
     last: Segment,
-    stop: Stop,
+    stop: Option<Stop>,
 ) -> Day
     ensures { result ≡ ended_with book segments last stop }
 {
@@ -79,15 +79,15 @@ fn replay_pieces(file: &[u8], rows: &mut [u64], places: &mut [u16]) -> Day
         book = turn.book;
         bounds = turn.bounds;
         if !goes_on(turn.number) {
-            let stop = Stop::At {
+            let stop = Some(Stop {
                 piece: i + 1,
                 number: turn.number,
-            };
+            });
             return ended(book, segments, last, stop);
         }
         i += 1;
     }
-    ended(book, segments, last, Stop::Never)
+    ended(book, segments, last, None)
 }
 
 // The same with memory of its own.

@@ -14,17 +14,17 @@ pub const DAY_SEGMENTS: usize = 64;
 
 // Where a replay was stopped: the piece, counted from 1, and the number that it was turned away by.
 #[derive(Clone, Copy)]
-pub enum Stop {
-    Never,
-    At { piece: usize, number: u64 },
+pub struct Stop {
+    pub piece: usize,
+    pub number: u64,
 }
 
-// What a replay leaves.
+// What a replay leaves; of one that was not stopped, no stop.
 #[derive(Clone, Copy)]
 pub struct Day {
     pub book: BookReconstructor,
     pub segments: [Segment; DAY_SEGMENTS],
-    pub stop: Stop,
+    pub stop: Option<Stop>,
 }
 
 pub fn no_segments() -> [Segment; DAY_SEGMENTS]
