@@ -55,7 +55,9 @@ pub fn queue_estimate_own_under(
     let rules = book.rules;
     let rule = rules.size_decrease;
     let _last_seq = reconstructor_view::valid_book(top, book, rows, false)?;
-    let order = resting(rows, book.rows, order_id).ok_or(QueueError::NotResting)?;
+    let Some(order) = resting(rows, book.rows, order_id) else {
+        return Err(QueueError::NotResting);
+    };
     if place_unknown(rule, order) {
         return Err(QueueError::PriorityUnknown);
     }

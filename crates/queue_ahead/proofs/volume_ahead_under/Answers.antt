@@ -37,9 +37,9 @@ returns-in_err-last_seq c =
     let p = err_from_is_err_and c.from_residual.result c.from_residual.ensures.1 in
     rw (p.1, p.2, refused-for a.top a.book (memory a.rows.now) false _ c.valid_book.ensures _ c.in_err-last_seq.was)
 
-pub returns-else-is_stale : goal.returns-else-is_stale
+pub returns : goal.returns
 unfolding ahead_refusal ahead_of check first
-returns-else-is_stale c =
+returns c =
     let a = c.args in
     let v = found-valid a.top a.book (memory a.rows.now) false _ c.valid_book.ensures _ c.in_ok-last_seq.was in
     rw (v.0, ← c.list_short.ensures, c.if-list_short.false, ← c.is_stale.ensures, c.if-is_stale.false) (c.anchor_ahead.ensures ∙ ap (λ t. anchor_ahead a.book.rules.size_decrease t a.estimate a.estimate.anchor a.ahead.now (orders_of (memory a.rows.now) a.book.rows)) v.1)

@@ -48,9 +48,9 @@ returns-in_err-last_seq c =
     let p = err_from_is_err_and c.from_residual.result c.from_residual.ensures.1 in
     rw (p.1, p.2, refused-for a.top a.book (memory a.rows.now) false _ c.valid_book.ensures _ c.in_err-last_seq.was)
 
-pub returns-else-ahead-orders : goal.returns-else-ahead-orders
+pub returns : goal.returns
 unfolding estimated
-returns-else-ahead-orders c =
+returns c =
     let a = c.args in
     let v = found-valid a.top a.book (memory a.rows.now) false _ c.valid_book.ensures _ c.in_ok-last_seq.was in
     let os = rows_at a.side c.size_of-at.result (orders_of (memory a.rows.now) a.book.rows) in

@@ -28,7 +28,7 @@ unfolding own_viewed
 returns-then-place_unknown c =
     let a = c.args in
     let v = found-valid a.top a.book (memory a.rows.now) false _ c.valid_book.ensures _ c.in_ok-_last_seq.was in
-    let w = rw c.in_ok-order.was at c.resting.ensures in
+    let w = rw c.in-Some.is at c.resting.ensures in
     rw (v.0, w, ← c.place_unknown.ensures, c.if-place_unknown.true)
 
 pub own_estimate-requires : goal.own_estimate-requires
@@ -36,7 +36,7 @@ own_estimate-requires c =
     let a = c.args in
     let m = memory a.rows.now in
     let v = found-valid a.top a.book m false _ c.valid_book.ensures _ c.in_ok-_last_seq.was in
-    let w = rw c.in_ok-order.was at c.resting.ensures in
+    let w = rw c.in-Some.is at c.resting.ensures in
     price_most _ (with-sound a.order_id (orders_of m a.book.rows) _ (sound a.book m v.2.trusted.sound).formed.sound w)
 
 pub returns-in_err-_last_seq : goal.returns-in_err-_last_seq
@@ -46,10 +46,10 @@ returns-in_err-_last_seq c =
     let p = err_from_is_err_and c.from_residual.result c.from_residual.ensures.1 in
     rw (p.1, p.2, refused-for a.top a.book (memory a.rows.now) false _ c.valid_book.ensures _ c.in_err-_last_seq.was)
 
-pub returns-else-place_unknown : goal.returns-else-place_unknown
+pub returns : goal.returns
 unfolding own_viewed
-returns-else-place_unknown c =
+returns c =
     let a = c.args in
     let v = found-valid a.top a.book (memory a.rows.now) false _ c.valid_book.ensures _ c.in_ok-_last_seq.was in
-    let w = rw c.in_ok-order.was at c.resting.ensures in
+    let w = rw c.in-Some.is at c.resting.ensures in
     rw (v.0, w, ← c.place_unknown.ensures, c.if-place_unknown.false, c.own_estimate.ensures)
