@@ -3,7 +3,7 @@
 
 ghost use Rattle.std.specs.Prelude.{◌≡◌, ◌+◌, ◌≤◌, length};
 ghost use Rattle.message.specs.Values.{order_in_range, orders_in_range};
-ghost use Rattle.piece.specs.Piece.{snapshot_shaped, order_from, no_order, order_at, orders_from, read_snapshot};
+ghost use Rattle.piece.specs.Piece.{snapshot_shaped, order_from, order_at, orders_from, read_snapshot};
 ghost use Rattle.piece.specs.Words.{read_snapshot_told};
 
 use message::{L3Snapshot, SnapshotOrder};
