@@ -16,10 +16,8 @@ pub fn order_count(rows: &[u64], n: usize, side: L3Side, price: u64) -> usize
     requires { Lent rows.now n }
     ensures { result ≡ length (rows_at side price (rows_of rows.now n)) }
 {
-    let mut count: usize = 0;
-    let mut i = n;
-    while 0 < i {
-        i -= 1;
+    let mut count = 0;
+    for i in (0..n).rev() {
         if book_search::on_level(book::get_row(rows, i), side, price) {
             count += 1;
         }
@@ -59,11 +57,8 @@ pub fn write_orders(
     requires { Lent rows.now n × (length (entries_words form (rows_at side price (rows_of rows.now n))) ≤ length out.old) }
     ensures { out.new ≡ written (entries_words form (rows_at side price (rows_of rows.now n))) out.old }
 {
-    let mut at: usize = 0;
-    let mut i: usize = 0;
-    while i < n {
-        let o = book::get_row(rows, i);
-        at = write_row(out, at, side, price, form, o);
-        i += 1;
+    let mut at = 0;
+    for i in 0..n {
+        at = write_row(out, at, side, price, form, book::get_row(rows, i));
     }
 }

@@ -1,8 +1,7 @@
 -- From the last row to the first: the count is the number of rows at the level from `i` on, and one row more adds one or none. It is at most the number of
 -- rows seen, so it fits.
 use Prim.Native.Nat.{◌-◌}
-use mathlib.Core.Path.{◌≡◌, ◌∙◌, sym, ap}
-use native.Mathlib.Nat.{sub-zero}
+use mathlib.Core.Path.{sym, ap}
 use native.Mathlib.Omega.{arith}
 use lib.ListN.{length}
 use Rattle.book.specs.Rows.{rows_from}
@@ -12,16 +11,13 @@ use Rattle.book_queue.proofs.Orders.{at_most}
 use Rattle.book_orders.proofs.order_count.Goals as goal
 
 pub loop-i-init : goal.loop-i-init
-loop-i-init c = (omega arith, sym (ap (λ l. length (rows_at c.args.side c.args.price l)) (rows-done c.args.rows.now c.args.n c.args.n (omega arith))))
+loop-i-init c = sym (ap (λ l. length (rows_at c.args.side c.args.price l)) (rows-done c.args.rows.now c.args.n c.args.n (omega arith)))
 
 pub overflow_add-count : goal.overflow_add-count
-overflow_add-count c = record { fits = omega (arith, c.loop-i.invariant.1, at_most c.args.side c.args.price (rows_from c.args.rows.now c.loop-i.i (c.args.n - c.loop-i.i)), length-rows c.args.rows.now c.loop-i.i (c.args.n - c.loop-i.i), c.requires.few) }
+overflow_add-count c = record { fits = omega (arith, c.loop-i.invariant, at_most c.args.side c.args.price (rows_from c.args.rows.now c.loop-i.i (c.args.n - c.loop-i.i)), length-rows c.args.rows.now c.loop-i.i (c.args.n - c.loop-i.i), c.requires.few) }
 
 pub loop-i-preserved-then-on_level : goal.loop-i-preserved-then-on_level
-loop-i-preserved-then-on_level c = (omega arith, rw (rows_prev c.args.rows.now c.args.n c.loop-i.i (c.loop-i.i - 1) c.get_row.result (omega arith) c.loop-i.invariant.0 c.get_row.ensures, ← c.on_level.ensures, c.if-on_level.true, c.loop-i.invariant.1) (omega arith))
+loop-i-preserved-then-on_level c = rw (rows_prev c.args.rows.now c.args.n c.loop-i.i (c.loop-i.i - 1) c.get_row.result (omega arith) c.loop-i.auto.i c.get_row.ensures, ← c.on_level.ensures, c.if-on_level.true, c.loop-i.invariant) (omega arith)
 
 pub loop-i-preserved : goal.loop-i-preserved
-loop-i-preserved c = (omega arith, rw (rows_prev c.args.rows.now c.args.n c.loop-i.i (c.loop-i.i - 1) c.get_row.result (omega arith) c.loop-i.invariant.0 c.get_row.ensures, ← c.on_level.ensures, c.if-on_level.false) c.loop-i.invariant.1)
-
-pub returns : goal.returns
-returns c = let z : c.loop-i.i ≡ 0 = omega arith in c.loop-i.invariant.1 ∙ rw (z, sub-zero)
+loop-i-preserved c = rw (rows_prev c.args.rows.now c.args.n c.loop-i.i (c.loop-i.i - 1) c.get_row.result (omega arith) c.loop-i.auto.i c.get_row.ensures, ← c.on_level.ensures, c.if-on_level.false) c.loop-i.invariant

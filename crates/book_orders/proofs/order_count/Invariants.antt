@@ -1,6 +1,6 @@
 -- From the last row to the first: the count is the number of rows at the level from `i` on, and one row more adds one or none. It is at most the number of
 -- rows seen, so it fits.
-use Prim.Native.Nat.{◌≤◌, ◌-◌}
+use Prim.Native.Nat.{◌-◌}
 use mathlib.Core.Path.{◌≡◌}
 use lib.ListN.{length}
 use Rattle.book.specs.Rows.{rows_from}
@@ -8,7 +8,4 @@ use Rattle.book_queue.specs.Queue.{rows_at}
 use Rattle.book_orders.proofs.order_count.Given as goal
 
 abbrev pub invariant-loop-i : goal.invariant-loop-i
-invariant-loop-i l = (l.i ≤ l.n) × (l.count ≡ length (rows_at l.side l.price (rows_from l.rows l.i (l.n - l.i))))
-
-abbrev pub decreases-loop-i : goal.decreases-loop-i
-decreases-loop-i l = l.i
+invariant-loop-i l = l.count ≡ length (rows_at l.side l.price (rows_from l.rows l.i (l.n - l.i)))

@@ -9,10 +9,10 @@ pub loop-i-init : goal.loop-i-init
 loop-i-init c = (writes_start c.args.form c.args.side c.args.price c.args.rows.now c.args.n c.args.out.now, refl)
 
 pub write_row-at-requires : goal.write_row-at-requires
-write_row-at-requires c = let r = writes-room c.args.form c.args.side c.args.price c.args.rows.now c.args.n c.args.out.now c.loop-i.out c.loop-i.at c.loop-i.i c.loop-i.invariant.0 c.loop-i-test.true in rw c.get_row-o.ensures (omega (arith, r, c.loop-i.invariant.1, c.requires.1))
+write_row-at-requires c = let r = writes-room c.args.form c.args.side c.args.price c.args.rows.now c.args.n c.args.out.now c.loop-i.out c.loop-i.at c.loop-i.i c.loop-i.invariant.0 c.loop-i-test.true in rw c.get_row.ensures (omega (arith, r, c.loop-i.invariant.1, c.requires.1))
 
 pub loop-i-preserved : goal.loop-i-preserved
-loop-i-preserved c = (writes-next c.args.form c.args.side c.args.price c.args.rows.now c.args.n c.args.out.now c.loop-i.out c.loop-i.at c.loop-i.i c.loop-i.invariant.0 c.loop-i-test.true _ _ (rw c.get_row-o.ensures at c.write_row-at.ensures.value) (rw c.get_row-o.ensures at c.write_row-at.ensures.out_after), omega (arith, c.write_row-at.auto.out, c.loop-i.invariant.1))
+loop-i-preserved c = (writes-next c.args.form c.args.side c.args.price c.args.rows.now c.args.n c.args.out.now c.loop-i.out c.loop-i.at c.loop-i.i c.loop-i.invariant.0 c.loop-i-test.true _ _ (rw c.get_row.ensures at c.write_row-at.ensures.value) (rw c.get_row.ensures at c.write_row-at.ensures.out_after), omega (arith, c.write_row-at.auto.out, c.loop-i.invariant.1))
 
 pub returns : goal.returns
 returns c = writes_all c.args.form c.args.side c.args.price c.args.rows.now c.args.n c.args.out.now c.loop-i.out c.loop-i.at c.loop-i.i c.loop-i.invariant.0 c.loop-i-test.false
