@@ -3,8 +3,8 @@
 use Rattle.std.specs.Prelude.{Option, Some, None}
 use Prim.Native.Nat.{ℕ, suc, ◌≤◌, max, min}
 use Rattle.std.proofs.lemmas.Bool.Decides.{nat_tests}
-use mathlib.Core.Path.{◌≡◌, refl, sym, ap, ap₂, ◌∙◌}
-use mathlib.Core.Bool.{Bool, true, false, ◌||◌, cond}
+use mathlib.Core.Path.{◌≡◌, refl, sym, ap₂, ◌∙◌}
+use mathlib.Core.Bool.{Bool, true, false, cond}
 use mathlib.Core.List.{List, [], ◌∷◌}
 use native.Mathlib.Omega.{arith}
 use lib.Dec.{leb}
@@ -14,11 +14,13 @@ use Rattle.message.specs.declared.L3Side.{L3Side}
 use Rattle.message.specs.declared.L3Side.TheVariants.{Buy, Sell}
 use Rattle.message.specs.Same.{same_side}
 use Rattle.book.specs.declared.Resting.{Resting}
-use Rattle.book.specs.Line.{ahead, better, best, meet, crossed}
-use Rattle.book.specs.Rows.{side_of, line_of}
+use Rattle.book.specs.Line.{ahead, better, best, meet, crossed, levels}
+use Rattle.book.specs.Rows.{side_of, line_of, rows_of}
 use Rattle.message.specs.Values.{amount_limit}
 use Rattle.book.specs.Broken.{row_broken, some_row_broken}
-use Rattle.book.proofs.Kept.{InRange, sound_row}
+use Rattle.book.proofs.Kept.{InRange, sound_row, length-line}
+use Rattle.book.proofs.Moves.{levels_most}
+use Rattle.book.proofs.Rows.{length-rows}
 
 -- a best price as a number
 abbrev or-zero : Option ℕ → ℕ
@@ -104,22 +106,6 @@ crossed_is os h =
     meet_is (best Buy (line_of os)) (best Sell (line_of os)) (ranged Buy os h) (ranged Sell os h)
     ∙ sym (ap₂ leb (lowest_is os h) (highest_is os))
 
--- the tests in the order of the code
-pub broken-first : (a b c d : Bool) → (a || d) ≡ true → (a || (b || (c || d))) ≡ true
-broken-first true b c d h = refl
-broken-first false true c d h = refl
-broken-first false false true d h = refl
-broken-first false false false d h = h
-
-pub broken_second : (a b c d : Bool) → b ≡ true → (a || (b || (c || d))) ≡ true
-broken_second true b c d h = refl
-broken_second false b c d h = ap (λ (x : Bool). x || (c || d)) h
-
-pub broken_third : (a b c d : Bool) → (a || d) ≡ false → b ≡ false → (a || (b || (c || d))) ≡ c
-broken_third a b c d h k =
-    let e = or_no a d h in
-    rw (e.0, k, e.1) (go c)
-  where
-    go : (x : Bool) → (x || false) ≡ x
-    go true = refl
-    go false = refl
+-- there are no more levels than rows
+pub levels_within : (ws : List ℕ) (n : ℕ) → levels (line_of (rows_of ws n)) ≤ n
+levels_within ws n = omega (arith, levels_most (line_of (rows_of ws n)), length-line (rows_of ws n), length-rows ws 0 n)

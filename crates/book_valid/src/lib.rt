@@ -59,6 +59,7 @@ fn screened(rows: &[u64], n: usize) -> bool
 }
 
 // Whether `n` rows are no book: number 3's part on the rows. More rows than 4,096, or than the words hold, are none.
+#[tactic(auto, using(crate::proofs::Crossing::levels_within))]
 pub fn rows_broken(rows: &[u64], n: usize, max_levels: usize) -> bool
     ensures { result ≡ words_broken max_levels rows.now n }
 {
