@@ -63,21 +63,10 @@ fn screened(rows: &[u64], n: usize) -> bool
 pub fn rows_broken(rows: &[u64], n: usize, max_levels: usize) -> bool
     ensures { result ≡ words_broken max_levels rows.now n }
 {
-    if book::MOST_ROWS < n {
-        return true;
-    }
-    if rows.len() < book::ROW_WORDS * n {
-        return true;
-    }
-    if screened(rows, n) {
-        return true;
-    }
-    if book_keys::id_twice(rows, n) {
-        return true;
-    }
-    // There are no more levels than rows.
-    if n <= max_levels {
-        return false;
-    }
-    max_levels < book_keys::level_count(rows, n)
+    book::MOST_ROWS < n
+        || rows.len() < book::ROW_WORDS * n
+        || screened(rows, n)
+        || book_keys::id_twice(rows, n)
+        // There are no more levels than rows.
+        || (max_levels < n && max_levels < book_keys::level_count(rows, n))
 }
