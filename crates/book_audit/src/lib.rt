@@ -19,10 +19,7 @@ fn some_empty(rows: &[u64], n: usize) -> bool
 pub fn audit(rows: &[u64], n: usize) -> Result<(), AuditFinding>
     ensures { result ≡ audit_of rows.now n }
 {
-    if book::MOST_ROWS < n {
-        return Err(AuditFinding::NotLent);
-    }
-    if rows.len() < book::ROW_WORDS * n {
+    if book::MOST_ROWS < n || rows.len() < book::ROW_WORDS * n {
         return Err(AuditFinding::NotLent);
     }
     if some_empty(rows, n) {
