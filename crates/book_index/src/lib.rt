@@ -31,22 +31,19 @@ impl Bounds {
     }
 
     // Wide enough for one order more.
-    pub fn widened(mut self, side: L3Side, price: u64) -> Self
+    pub fn widened(self, side: L3Side, price: u64) -> Self
         ensures { result ≡ widened self side price }
     {
         match side {
-            L3Side::Buy => {
-                if self.high_bid < price {
-                    self.high_bid = price;
-                }
-            }
-            L3Side::Sell => {
-                if price < self.low_ask {
-                    self.low_ask = price;
-                }
-            }
+            L3Side::Buy => Self {
+                high_bid: self.high_bid.max(price),
+                ..self
+            },
+            L3Side::Sell => Self {
+                low_ask: self.low_ask.min(price),
+                ..self
+            },
         }
-        self
     }
 
     // Whether they tell that an open does not cross.
@@ -74,26 +71,14 @@ pub fn bucket_of(id: OrderId, m: usize) -> usize
     )
 }
 
-fn smaller(a: usize, b: usize) -> usize
-    ensures { result ≤ b }
-{
-    if a < b { a } else { b }
-}
-
 // A row with the id among the last 256 before row `k`.
 fn find_near(rows: &[u64], k: usize, id: OrderId) -> Option<usize>
     requires { Lent rows.now k }
     ensures { Near rows.now k id result }
 {
-    let last = if k < 256 { 0 } else { k - 256 };
-    let mut j = k;
-    while last < j {
-        j -= 1;
-        if book_search::has_id(book::get_row(rows, j), id) {
-            return Some(j);
-        }
-    }
-    None
+    (k.saturating_sub(256)..k)
+        .rev()
+        .find(|&j| book_search::has_id(book::get_row(rows, j), id))
 }
 
 // The row with the id: looked for from its place in the index down, and where that misses it, from the first row on.
@@ -109,7 +94,7 @@ pub fn find(rows: &[u64], n: usize, places: &[u16], bounds: Bounds, id: OrderId)
     if place == 0 {
         return None;
     }
-    let Some(i) = find_near(rows, smaller(place, n), id) else {
+    let Some(i) = find_near(rows, place.min(n), id) else {
         return book_search::find(rows, n, id);
     };
     Some(i)

@@ -25,8 +25,7 @@ pub fn mark_rows(rows: &[u64], n: usize, places: &mut [u16])
     requires { Lent rows.now n × (length places.old ≤ 65536) }
     ensures { all (row_marked places.new) (rows_of rows.now n) ≡ true }
 {
-    let mut i: usize = 0;
-    while i < n {
+    for i in 0..n {
         let o = book::get_row(rows, i);
         mark(
             places,
@@ -36,7 +35,6 @@ pub fn mark_rows(rows: &[u64], n: usize, places: &mut [u16])
                 low: o.low,
             },
         );
-        i += 1;
     }
 }
 
@@ -50,9 +48,7 @@ pub fn bounds_of(rows: &[u64], n: usize) -> Bounds
         high_bid: 0,
         low_ask: u64::MAX,
     };
-    let mut i = n;
-    while 0 < i {
-        i -= 1;
+    for i in (0..n).rev() {
         let o = book::get_row(rows, i);
         bounds = bounds.widened(book::side_of(o.kind), o.price);
     }

@@ -1,5 +1,4 @@
 -- The loop keeps the first `i` rows marked: a mark writes a place above 0 into the bucket of its row, and so unmarks no other row of that bucket.
-use Prim.Native.Nat.{◌≤◌, ◌-◌}
 use mathlib.Core.Path.{◌≡◌}
 use mathlib.Core.Bool.{true}
 use lib.ListN.{length}
@@ -8,7 +7,4 @@ use Rattle.book_index.specs.Index.{all, row_marked}
 use Rattle.book_index_upkeep.proofs.mark_rows.Given as goal
 
 abbrev pub invariant-loop-i : goal.invariant-loop-i
-invariant-loop-i l = (l.i ≤ l.n) × (length l.places ≡ length l.initial.places) × (all (row_marked l.places) (rows_of l.rows l.i) ≡ true)
-
-abbrev pub decreases-loop-i : goal.decreases-loop-i
-decreases-loop-i l = l.n - l.i
+invariant-loop-i l = (length l.places ≡ length l.initial.places) × (all (row_marked l.places) (rows_of l.rows l.i) ≡ true)

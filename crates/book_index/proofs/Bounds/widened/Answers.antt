@@ -1,19 +1,23 @@
-use borrow.Author.Tests.{lt-ltb, le-ltb}
+-- The greater of two numbers is `max`, the smaller `min`, whichever test finds it.
+use Prim.Native.Nat.{ℕ, max, min}
+use mathlib.Core.Path.{◌≡◌}
+use mathlib.Core.Bool.{cond}
+use native.Mathlib.Omega.{arith}
+use lib.Dec.{ltb}
+use Rattle.std.proofs.lemmas.Bool.Decides.{nat_tests}
 use Rattle.book_index.specs.Index.{widened}
 use Rattle.book_index.proofs.Bounds.widened.Goals as goal
 
-pub returns-then-self-price : goal.returns-then-self-price
-unfolding widened
-returns-then-self-price c = rw (c.in-Buy.is, lt-ltb _ _ c.if-self-price.true)
+greater : (a b : ℕ) → max a b ≡ cond (ltb a b) b a
+greater a b = grind (arith, nat_tests)
 
-pub returns-else-self-price : goal.returns-else-self-price
-unfolding widened
-returns-else-self-price c = rw (c.in-Buy.is, le-ltb _ _ c.if-self-price.false)
+lesser : (a b : ℕ) → min a b ≡ cond (ltb b a) b a
+lesser a b = grind (arith, nat_tests)
 
-pub returns-then-price-self : goal.returns-then-price-self
+pub returns-in-Buy : goal.returns-in-Buy
 unfolding widened
-returns-then-price-self c = rw (c.in-Sell.is, lt-ltb _ _ c.if-price-self.true)
+returns-in-Buy c = rw (c.in-Buy.is, c.max.ensures, greater)
 
-pub returns-else-price-self : goal.returns-else-price-self
+pub returns-in-Sell : goal.returns-in-Sell
 unfolding widened
-returns-else-price-self c = rw (c.in-Sell.is, le-ltb _ _ c.if-price-self.false)
+returns-in-Sell c = rw (c.in-Sell.is, c.min.ensures, lesser)

@@ -1,8 +1,0 @@
-use Prim.Native.Nat.{◌≤◌}
-use Rattle.book_index.proofs.find_near.Given as goal
-
-abbrev pub invariant-loop-j : goal.invariant-loop-j
-invariant-loop-j l = l.j ≤ l.k
-
-abbrev pub decreases-loop-j : goal.decreases-loop-j
-decreases-loop-j l = l.j
