@@ -86,9 +86,7 @@ pub fn tally_list(rows: &[u64], n: usize, ahead: &[u64], orders: usize, since: u
     ensures { result ≡ tally_of since (still_ahead (orders_of (memory rows.now) n) (entries_from ahead.now 0 orders)) }
 {
     let mut t = no_tally();
-    let mut i = orders;
-    while 0 < i {
-        i -= 1;
+    for i in (0..orders).rev() {
         let at = AHEAD_ENTRY_WORDS * i;
         let id = OrderId {
             high: ahead[at],
@@ -126,9 +124,7 @@ pub fn tally_before(
     ensures { result ≡ tally_of since (before own (rows_at side price (orders_of (memory rows.now) n))) }
 {
     let mut t = no_tally();
-    let mut i = n;
-    while 0 < i {
-        i -= 1;
+    for i in (0..n).rev() {
         t = tally_row(book::get_row(rows, i), side, price, own, since, t);
     }
     t
