@@ -5,7 +5,7 @@ ghost use Rattle.std.specs.Prelude.{◌≡◌};
 ghost use Rattle.reconstructor_counts.specs.Counts.{saturated, no_counts, counted};
 
 // Messages counted by what they did.
-#[derive(Clone, Copy)]
+#[derive(Clone, Copy, Default)]
 pub struct MessageCounts {
     pub received: u64,
     // `open` applied.
@@ -49,7 +49,7 @@ pub enum Counter {
 pub fn saturating_next(x: u64) -> u64
     ensures { result ≡ saturated x }
 {
-    if x < u64::MAX { x + 1 } else { x }
+    x.saturating_add(1)
 }
 
 // Adds one to the counter named, in place: the other eleven are neither read nor written.
@@ -82,19 +82,6 @@ impl MessageCounts {
     pub fn new() -> Self
         ensures { result ≡ no_counts }
     {
-        Self {
-            received: 0,
-            open: 0,
-            done: 0,
-            matched: 0,
-            stp_decrease: 0,
-            off_book_done: 0,
-            off_book_change: 0,
-            noop_change: 0,
-            handshake_dropped: 0,
-            skipped_while_invalid: 0,
-            wrong_product: 0,
-            rejected_snapshots: 0,
-        }
+        Self::default()
     }
 }
