@@ -7,7 +7,7 @@ ghost use Rattle.reconstructor_segments.specs.Segments.{no_segment, started, sup
 use reconstructor_answers::Invalidation;
 
 // A run of messages applied on one snapshot.
-#[derive(Clone, Copy)]
+#[derive(Clone, Copy, Default)]
 pub struct Segment {
     // The snapshot's sequence.
     pub start_seq: u64,
@@ -33,7 +33,7 @@ impl Segment {
     pub fn none() -> Self
         ensures { result ≡ no_segment }
     {
-        Self::started(0)
+        Self::default()
     }
 
     // The record that a snapshot starts.
@@ -44,11 +44,7 @@ impl Segment {
             start_seq: sequence,
             last_good_seq: sequence,
             end: Self::OPEN,
-            end_good: 0,
-            end_seq: 0,
-            end_detail: 0,
-            first_us: 0,
-            last_us: 0,
+            ..Self::default()
         }
     }
 
@@ -66,9 +62,6 @@ impl Segment {
     {
         if self.last_good_seq == self.start_seq {
             self.first_us = time_us;
-            self.last_good_seq = sequence;
-            self.last_us = time_us;
-            return self;
         }
         self.last_good_seq = sequence;
         self.last_us = time_us;
@@ -79,13 +72,10 @@ impl Segment {
     pub fn ended(mut self, invalidation: Invalidation) -> Self
         ensures { result ≡ ended self invalidation }
     {
-        let kind = invalidation.kind;
-        let end = kind.number();
-        let detail = kind.detail();
-        self.end = end;
+        self.end = invalidation.kind.number();
         self.end_good = invalidation.last_good_seq;
         self.end_seq = invalidation.first_offending_seq;
-        self.end_detail = detail;
+        self.end_detail = invalidation.kind.detail();
         self
     }
 
@@ -93,25 +83,19 @@ impl Segment {
     pub fn elapsed(self) -> u64
         ensures { result ≡ elapsed self }
     {
-        if self.last_us < self.first_us {
-            return 0;
-        }
-        self.last_us - self.first_us
+        self.last_us.saturating_sub(self.first_us)
     }
 
     // How many messages were accepted on its snapshot.
     pub fn accepted_messages(self) -> u64
         ensures { result ≡ accepted_messages self }
     {
-        if self.last_good_seq < self.start_seq {
-            return 0;
-        }
-        self.last_good_seq - self.start_seq
+        self.last_good_seq.saturating_sub(self.start_seq)
     }
 }
 
 // A segment's name: the reconstructor's number, which the host gives, with the segment's place in the list.
-#[derive(Clone, Copy)]
+#[derive(Clone, Copy, PartialEq, Eq)]
 pub struct SegmentName {
     pub number: u64,
     pub place: usize,
@@ -120,5 +104,5 @@ pub struct SegmentName {
 pub fn same_segment(a: SegmentName, b: SegmentName) -> bool
     ensures { result ≡ same_segment a b }
 {
-    (a.number == b.number) & (a.place == b.place)
+    a == b
 }
