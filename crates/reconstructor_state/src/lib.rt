@@ -82,7 +82,6 @@ impl BookReconstructor {
     pub fn new(product_id: ProductId, rules: VenueRules, number: u64) -> Self
         ensures { result ≡ new_book product_id rules number }
     {
-        let counts = MessageCounts::new();
         Self {
             product_id,
             rules,
@@ -90,7 +89,7 @@ impl BookReconstructor {
             status: Status::Empty,
             rows: 0,
             segments: 0,
-            counts,
+            counts: MessageCounts::new(),
         }
     }
 
@@ -105,18 +104,7 @@ impl BookReconstructor {
     pub fn with_status(self, status: Status) -> Self
         ensures { result ≡ with_status self status }
     {
-        let product_id = self.product_id;
-        let rules = self.rules;
-        let counts = self.counts;
-        Self {
-            product_id,
-            rules,
-            number: self.number,
-            status,
-            rows: self.rows,
-            segments: self.segments,
-            counts,
-        }
+        Self { status, ..self }
     }
 
     // How many segment records are in use.
@@ -130,16 +118,9 @@ impl BookReconstructor {
     pub fn segment_name(self) -> SegmentName
         ensures { result ≡ segment_of self }
     {
-        let count = self.segments;
-        if count == 0 {
-            return SegmentName {
-                number: self.number,
-                place: 0,
-            };
-        }
         SegmentName {
             number: self.number,
-            place: count - 1,
+            place: self.segments.saturating_sub(1),
         }
     }
 }
