@@ -49,6 +49,7 @@ pub fn refused(book: BookReconstructor, error: ApplyError) -> Reply
 }
 
 // What comes before the sequence in a state that passed 1, 2 and 3: 5, 10, 15, 17.
+#[tactic(auto, unfolding(reconstructor::specs::Refusals::admit_refusal, reconstructor_state::specs::Checks::check))]
 pub fn admit(book: BookReconstructor, message: L3Message) -> Result<u64, ApplyError>
     ensures { AdmitsFor (admit_refusal book.product_id book.status message) (last_of book.status) result }
 {

@@ -10,6 +10,7 @@ use reconstructor_counts::Counter;
 use reconstructor_state::{BookReconstructor, Status};
 
 // The message ends the segment; the rows stay as a stale book.
+#[tactic(auto, unfolding(reconstructor::specs::Applied::invalidated_reply))]
 pub fn invalidated(book: BookReconstructor, last: u64, seq: u64, kind: InvalidationKind) -> Reply
     ensures { result ≡ invalidated_reply book last seq kind }
 {
@@ -25,6 +26,7 @@ pub fn invalidated(book: BookReconstructor, last: u64, seq: u64, kind: Invalidat
 }
 
 // The message is accepted: its sequence, so many rows in use, and one of the state's counts raised in place.
+#[tactic(auto, unfolding(reconstructor::specs::Applied::accepted_reply))]
 pub fn accepted(
     book: BookReconstructor,
     seq: u64,
