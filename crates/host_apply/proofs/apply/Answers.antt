@@ -31,5 +31,5 @@ pub returns : goal.returns
 unfolding apply_call
 returns c =
     goes_on _ _ (λ (n : ℕ). called n c.args.state.now c.args.rows.now c.args.segments.now) _ _ c.apply_boundary-stop.ensures c.if-stop-ne0.false
-    (rw (c.number.ensures, c.store_book.ensures, c.sets_status.ensures, ← c.load_book-book.ensures, ← c.load_message.ensures)
+    (rw (c.answer_number.ensures, c.store_book.ensures, c.sets_status.ensures, ← c.load_book-book.ensures, ← c.load_message.ensures)
     (apply-leaves ceiling c.args.state.now c.args.rows.now c.args.segments.now c.load_book-book.result c.last_record-last.result c.last_record-last.ensures c.load_message.result c.apply_by_value-work.result _ _ c.apply_by_value-work.ensures c.rewrite_record.ensures))

@@ -25,6 +25,6 @@ returns c =
     let eg = rw c.load_book-book.ensures at c.rewrite_record.ensures in
     let eu = rw c.sets_status.ensures at c.store_book.ensures in
     record {
-      applies = rw c.number.ensures (applies st ws sg a.message.now w.result.work _ _ _ _ at e eg eu runs.whole runs.book runs.usable c.requires.message_words_in_bounds c.requires.message_value);
+      applies = rw c.answer_number.ensures (applies st ws sg a.message.now w.result.work _ _ _ _ at e eg eu runs.whole runs.book runs.usable c.requires.message_words_in_bounds c.requires.message_value);
       runs = runs_on st ws sg a.message.now w.result.work _ _ _ _ at e eg eu runs.whole runs.book runs.usable _ w.result.bounds c.store_book.auto.words c.rewrite_record.auto.words w.ensures.indexes;
     }
