@@ -153,6 +153,7 @@ impl Handshake {
     }
 
     // A step of a state that passes 1, 2 and 3, with the last segment's record by value.
+    #[tactic(auto, unfolding(crate::specs::Inner::step_to, crate::specs::Step::unless_refused, reconstructor_state::specs::Checks::check))]
     fn step_trusted(
         self,
         book: BookReconstructor,
