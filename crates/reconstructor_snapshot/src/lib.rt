@@ -1,9 +1,9 @@
 // A snapshot's orders as rows, and its validation: 10 to 14.
 #![tactic(auto)]
 
-ghost use Rattle.std.specs.Prelude.{◌≡◌, cond, ◌+◌, ◌≤◌, ltb};
+ghost use Rattle.std.specs.Prelude.{◌≡◌, cond, ◌+◌, ◌*◌, ◌≤◌, ltb};
 ghost use Rattle.book.specs.Line.{rests, has_level};
-ghost use Rattle.book.specs.Rows.{Lent, most_rows, rows_of, line_of, id_of, side_of, stored, snapshot_kind, snapshot_row};
+ghost use Rattle.book.specs.Rows.{Lent, row_words, most_rows, rows_of, line_of, id_of, side_of, stored, snapshot_kind, snapshot_row};
 ghost use Rattle.reconstructor_bootstrap.specs.Snapshot.{snapshot_line, line_refusal, snapshot_refusal};
 ghost use Rattle.reconstructor_bootstrap.specs.Bootstrap.{validated};
 ghost use Rattle.reconstructor_bootstrap.specs.Places.{side_at, entry_at, entries_from, rows_at, Room};
@@ -64,26 +64,12 @@ pub fn store_rows(
     requires { Room rows.old former n }
     ensures { rows.new ≡ stored rows.old former (rows_at bids bytes.now n sequence) }
 {
-    let mut i: usize = 0;
-    while i < n {
+    for i in 0..n {
         let order = snapshot_row(bytes, bids, i, sequence);
         book::set_row(rows, i, order);
-        i += 1;
     }
-    let empty = Resting {
-        high: 0,
-        low: 0,
-        price: 0,
-        remaining: 0,
-        kind: 0,
-        entered_at: 0,
-        decreased: 0,
-        decreased_at: 0,
-    };
-    let mut k = n;
-    while k < former {
-        book::set_row(rows, k, empty);
-        k += 1;
+    for k in n..former {
+        book::set_row(rows, k, Resting::default());
     }
 }
 
@@ -96,10 +82,7 @@ fn id_rests(rows: &[u64], i: usize, order: Resting) -> bool
         high: order.high,
         low: order.low,
     };
-    let Some(_) = book_search::find(rows, i, id) else {
-        return false;
-    };
-    true
+    book_search::find(rows, i, id).is_some()
 }
 
 // How many levels `order` adds to those of the first `i` rows.
@@ -120,8 +103,7 @@ fn check_in_turn(rows: &[u64], n: usize, max_levels: usize) -> Result<(), Snapsh
     ensures { result ≡ validated (line_refusal max_levels (line_of (rows_of rows.now n))) }
 {
     let mut levels: usize = 0;
-    let mut i: usize = 0;
-    while i < n {
+    for i in 0..n {
         let order = book::get_row(rows, i);
         if id_rests(rows, i, order) {
             return Err(SnapshotError::DuplicateId);
@@ -134,7 +116,6 @@ fn check_in_turn(rows: &[u64], n: usize, max_levels: usize) -> Result<(), Snapsh
             return Err(SnapshotError::CapacityExceeded);
         }
         levels += added;
-        i += 1;
     }
     if book_prices::meet(
         book_prices::best_bid(rows, n),
@@ -156,35 +137,24 @@ fn validate_rows(rows: &[u64], n: usize, max_levels: usize) -> Result<(), Snapsh
     Ok(())
 }
 
-// The orders as rows of an array of its own, small where few orders ask for it: an array is cleared at each call.
-fn validate_128(bytes: &[u8], bids: usize, n: usize, max_levels: usize) -> Result<(), SnapshotError>
-    requires { n ≤ 128 }
-    ensures { result ≡ validated (line_refusal max_levels (entries_from bids bytes.now 0 n)) }
-{
-    let mut rows = [0u64; 1024];
-    store_rows(&mut rows, 0, bytes, bids, n, 0);
-    validate_rows(&rows, n, max_levels)
-}
+// Words of the arrays that the orders are staged in, of 128 orders, 512, and as many as a book can have: an array is cleared at each call.
+const FEW_WORDS: usize = 1024;
 
-fn validate_512(bytes: &[u8], bids: usize, n: usize, max_levels: usize) -> Result<(), SnapshotError>
-    requires { n ≤ 512 }
-    ensures { result ≡ validated (line_refusal max_levels (entries_from bids bytes.now 0 n)) }
-{
-    let mut rows = [0u64; 4096];
-    store_rows(&mut rows, 0, bytes, bids, n, 0);
-    validate_rows(&rows, n, max_levels)
-}
+const MORE_WORDS: usize = 4096;
 
-fn validate_4096(
+const MOST_WORDS: usize = 32768;
+
+// The orders as rows of an array of its own, of `WORDS` words.
+fn validate_staged<const WORDS: usize>(
     bytes: &[u8],
     bids: usize,
     n: usize,
     max_levels: usize,
 ) -> Result<(), SnapshotError>
-    requires { n ≤ most_rows }
+    requires { (n ≤ most_rows) × ((row_words * n ≤ WORDS) × (WORDS ≤ row_words * most_rows)) }
     ensures { result ≡ validated (line_refusal max_levels (entries_from bids bytes.now 0 n)) }
 {
-    let mut rows = [0u64; 32768];
+    let mut rows = [0u64; WORDS];
     store_rows(&mut rows, 0, bytes, bids, n, 0);
     validate_rows(&rows, n, max_levels)
 }
@@ -198,13 +168,13 @@ fn validate_orders(
     requires { n ≤ most_rows }
     ensures { result ≡ validated (line_refusal max_levels (entries_from bids bytes.now 0 n)) }
 {
-    if n <= 128 {
-        return validate_128(bytes, bids, n, max_levels);
+    if n <= FEW_WORDS / book::ROW_WORDS {
+        return validate_staged::<FEW_WORDS>(bytes, bids, n, max_levels);
     }
-    if n <= 512 {
-        return validate_512(bytes, bids, n, max_levels);
+    if n <= MORE_WORDS / book::ROW_WORDS {
+        return validate_staged::<MORE_WORDS>(bytes, bids, n, max_levels);
     }
-    validate_4096(bytes, bids, n, max_levels)
+    validate_staged::<MOST_WORDS>(bytes, bids, n, max_levels)
 }
 
 // Whether the orders are more than the limit. Their sum is not formed before it is known to fit.

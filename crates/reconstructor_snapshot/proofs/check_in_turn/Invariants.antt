@@ -9,6 +9,3 @@ use Rattle.reconstructor_snapshot.proofs.check_in_turn.Given as goal
 
 abbrev pub invariant-loop-i : goal.invariant-loop-i
 invariant-loop-i l = (l.i ≤ l.n) × (l.levels ≤ l.i) × (l.levels ≡ levels_in (line_of (rows_of l.rows l.i))) × Reached l.max_levels l.rows l.n l.i
-
-abbrev pub decreases-loop-i : goal.decreases-loop-i
-decreases-loop-i l = l.n - l.i

@@ -9,11 +9,5 @@ use Rattle.reconstructor_snapshot.proofs.store_rows.Given as goal
 abbrev pub invariant-loop-i : goal.invariant-loop-i
 invariant-loop-i l = (l.i ≤ l.n) × Filled l.initial.rows l.rows l.i (rows_at l.bids l.bytes l.i l.sequence)
 
-abbrev pub decreases-loop-i : goal.decreases-loop-i
-decreases-loop-i l = l.n - l.i
-
 abbrev pub invariant-loop-k : goal.invariant-loop-k
 invariant-loop-k l = (l.n ≤ l.k) × (l.k ≤ max l.former l.n) × Filled l.initial.rows l.rows l.k (rows_at l.bids l.bytes l.n l.sequence ++ blanks (l.k - l.n))
-
-abbrev pub decreases-loop-k : goal.decreases-loop-k
-decreases-loop-k l = l.former - l.k
