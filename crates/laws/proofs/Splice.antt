@@ -1,12 +1,10 @@
--- Laws of lists that the kit lacks: a list with a part replaced, and an element taken out by moving the later ones down.
-use Prim.Native.Nat.{ℕ, suc, ◌+◌, ◌-◌, ◌<◌, ◌≤◌}
-use mathlib.Core.Path.{◌≡◌, sym, ap, ◌∙◌}
-use mathlib.Core.List.{List, [], ◌∷◌, ◌++◌, append_assoc}
-use native.Mathlib.Nat.{sub_self}
-use native.Mathlib.Numerals.{add-one}
+-- Laws of lists that the kit lacks: a list with a part replaced.
+use Prim.Native.Nat.{ℕ, ◌+◌, ◌-◌, ◌<◌, ◌≤◌}
+use mathlib.Core.Path.{◌≡◌, ◌∙◌}
+use mathlib.Core.List.{List, ◌++◌, append_assoc}
 use native.Mathlib.Omega.{arith}
-use lib.ListN.{length, get_or, take, drop, set, length-append, length-drop, replicate, length-replicate, replicate-append-replicate, get_or-append, drop_of_length-le}
-use lib.Seq.{length-take-le, take_all, get_or-take, get_or-drop, get_or-append-add, drop-append-add, drop-drop, drop-cons, set_at, paste, paste-zero, paste-suc}
+use lib.ListN.{length, get_or, take, drop, length-append, length-drop, get_or-append}
+use lib.Seq.{length-take-le, get_or-take, get_or-drop, get_or-append-add, drop-append-add, drop-drop}
 
 module _ {A : Type 0} where
   at_add : (p q : List A) (n k : ℕ) (d : A) → length p ≡ n → get_or (p ++ q) (n + k) d ≡ get_or q k d
@@ -44,43 +42,3 @@ module _ {A : Type 0} (l m : List A) (a b : ℕ) (e : a + length m ≡ b) (fits 
   splice-rest j h =
       let q : j ≡ b + (j - b) = omega arith in
       rw q (drop_add (take a l ++ m) (drop b l) b (j - b) len_two ∙ drop-drop (j - b) b l)
-
--- ---- the elements after index a, moved down by one, k of them so far
-
-module _ {A : Type 0} where
-  abbrev pub moved : List A → ℕ → ℕ → List A
-  moved l a k = paste l a (drop (a + 1) l) k
-
-  pub move-none : (l : List A) (a : ℕ) → l ≡ moved l a (a - a)
-  move-none l a = rw sub_self (paste-zero l a (drop (a + 1) l))
-
-  pub move_step : (l : List A) (a k i : ℕ) (d : A) → a + k ≡ i → i + 1 < length l → set (moved l a k) i (get_or (moved l a k) (i + 1) d) ≡ moved l a (k + 1)
-  move_step l a k i d e h =
-      let s : List A = drop (a + 1) l in
-      let lens : length s ≡ length l - (a + 1) = length-drop (a + 1) l in
-      let lent : length (take k s) ≡ k = length-take-le k s (omega arith) in
-      let read : get_or (moved l a k) (a + k + 1) d ≡ get_or s k d =
-      splice-past l (take k s) a (a + k) (ap (λ n. a + n) lent) (omega arith) d (a + k + 1) (omega arith)
-      ∙ ap (λ n. get_or l n d) (omega arith)
-      ∙ sym (get_or-drop (a + 1) l k d) in
-      rw (← e, read, add-one k) (paste-suc l a s k d (omega arith) (omega arith))
-
-  pub move_end : (l : List A) (a k i : ℕ) (e : A) → a + k ≡ i → i + 1 ≡ length l → set (moved l a k) i e ≡ take a l ++ drop (a + 1) l ++ (e ∷ [])
-  move_end l a k i e p h =
-      let s : List A = drop (a + 1) l in
-      let lens : length s ≡ length l - (a + 1) = length-drop (a + 1) l in
-      let lent : length (take a l) ≡ a = length-take-le a l (omega arith) in
-      let front : take k s ≡ s = take_all k s (omega arith) in
-      let last : drop (a + k) l ≡ get_or l (a + k) e ∷ [] =
-      drop-cons l (a + k) e (omega arith) ∙ ap {B = List A} (λ r. get_or l (a + k) e ∷ r) (drop_of_length-le l {i = suc (a + k)} (omega arith)) in
-      rw (front, last) (set_at (take a l ++ s) (get_or l (a + k) e) [] e i (simp (length-append, lent) (omega arith)))
-
--- ---- the first words zeroed: `replicate i 0 ++ drop i l`
-
-pub length-zeros : (l : List ℕ) (i : ℕ) → i ≤ length l → length (replicate {A = ℕ} i 0 ++ drop i l) ≡ length l
-length-zeros l i h = simp (length-append, length-drop) (omega (arith, length-replicate {A = ℕ} i 0))
-
--- one more
-pub zeros-next : (l : List ℕ) (i : ℕ) → i < length l → set (replicate {A = ℕ} i 0 ++ drop i l) i 0 ≡ replicate {A = ℕ} (i + 1) 0 ++ drop (i + 1) l
-zeros-next l i h =
-    rw (drop-cons l i 0 h, set_at (replicate i 0) (get_or l i 0) (drop (suc i) l) 0 i (length-replicate i 0), ← (replicate-append-replicate {A = ℕ} i 1 0), append_assoc, add-one i)
