@@ -5,9 +5,3 @@ use Rattle.queue_tally.proofs.tally_entry.Goals as goal
 
 pub tally_with-requires : goal.tally_with-requires
 tally_with-requires c = let w = rw c.in-Some.is at c.resting_since.ensures in (size_most _ (with-sound c.args.id (rows_of c.args.rows.now c.args.n) _ c.requires.lent.1 (entered-some c.args.entered_at (row_with c.args.id (rows_of c.args.rows.now c.args.n)) _ w)), c.requires.small)
-
-pub returns-in-Some : goal.returns-in-Some
-returns-in-Some c = let w = rw c.in-Some.is at c.resting_since.ensures in rw (w, c.tally_with.ensures)
-
-pub returns-in-None : goal.returns-in-None
-returns-in-None c = let w = rw c.in-None.is at c.resting_since.ensures in rw w
