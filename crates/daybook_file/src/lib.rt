@@ -56,14 +56,12 @@ fn in_place(file: &[u8], count: usize) -> bool
     if piece_start(file, 0) < COUNT_BYTES + PAIR_BYTES * count {
         return false;
     }
-    let mut i: usize = 0;
-    while i + 1 < count {
+    for i in 0..count - 1 {
         if !before_next(file, i) {
             return false;
         }
-        i += 1;
     }
-    piece_end(file, i) <= file.len()
+    piece_end(file, count - 1) <= file.len()
 }
 
 // Whether the file keeps the rules. The count is compared with the length before a pair is read, so that a false one costs no time.

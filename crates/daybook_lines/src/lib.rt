@@ -50,10 +50,8 @@ fn put_segments(text: &mut [u8], segments: [Segment; DAY_SEGMENTS], count: usize
     ensures short { result ≤ most_segment * day_segments }
 {
     let mut at: usize = 0;
-    let mut i: usize = 0;
-    while i < count {
+    for i in 0..count {
         at = put_segment(text, at, i + 1, segments[i]);
-        i += 1;
     }
     at
 }

@@ -54,11 +54,7 @@ fn unstarted(number: u64, book: BookReconstructor, segment: Segment, bounds: Bou
 
 // Marks of orders that are gone would do no harm but cost a search each, so no promise needs this.
 fn clear(places: &mut [u16]) {
-    let mut i: usize = 0;
-    while i < places.len() {
-        places[i] = 0;
-        i += 1;
-    }
+    places.fill(0);
 }
 
 // The index of the first `n` rows: made anew where a snapshot was taken, else the one that there is.

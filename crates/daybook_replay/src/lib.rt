@@ -62,8 +62,7 @@ fn replay_pieces(file: &[u8], rows: &mut [u64], places: &mut [u16]) -> Day
     let mut bounds = bounds_of(rows, 0);
     let mut last = Segment::none();
     let mut segments = no_segments();
-    let mut i: usize = 0;
-    while i < count {
+    for i in 0..count {
         let start = piece_start(file, i);
         let end = piece_end(file, i);
         let turn = play(book, rows, places, bounds, last, &file[start..end]);
@@ -85,7 +84,6 @@ fn replay_pieces(file: &[u8], rows: &mut [u64], places: &mut [u16]) -> Day
             });
             return ended(book, segments, last, stop);
         }
-        i += 1;
     }
     ended(book, segments, last, None)
 }

@@ -32,13 +32,11 @@ fn apply_all_from(
 {
     let count = messages.len() / MESSAGE_WORDS;
     let mut bounds = first;
-    let mut i: usize = 0;
-    while i < count {
+    for i in 0..count {
         let at = MESSAGE_WORDS * i;
         let done = apply_next(state, rows, segments, places, bounds, &messages[at..]);
         answers[i] = done.number;
         bounds = done.bounds;
-        i += 1;
     }
 }
 

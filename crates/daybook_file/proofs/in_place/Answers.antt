@@ -23,18 +23,12 @@ before_next-requires c = omega (arith, c.loop-i-test.true, c.requires)
 pub returns-then-not-before_next : goal.returns-then-not-before_next
 returns-then-not-before_next c =
     let f = c.args.file.now in
-    sym (c.loop-i.invariant.1 ∙ order-next f c.args.count c.loop-i.i c.loop-i-test.true ∙ rw (← c.before_next.ensures, c.if-not-before_next.true))
-
-pub overflow_add-i : goal.overflow_add-i
-overflow_add-i c = omega arith
-
-pub loop-i-smaller : goal.loop-i-smaller
-loop-i-smaller c = omega arith
+    sym (c.loop-i.invariant.1 ∙ order-next f c.args.count c.loop-i.i (omega (arith, c.loop-i-test.true)) ∙ rw (← c.before_next.ensures, c.if-not-before_next.true))
 
 pub loop-i-preserved : goal.loop-i-preserved
 loop-i-preserved c =
     let f = c.args.file.now in
-    (c.loop-i-test.true, c.loop-i.invariant.1 ∙ order-next f c.args.count c.loop-i.i c.loop-i-test.true ∙ rw (← c.before_next.ensures, c.if-not-before_next.false))
+    (omega (arith, c.loop-i-test.true), c.loop-i.invariant.1 ∙ order-next f c.args.count c.loop-i.i (omega (arith, c.loop-i-test.true)) ∙ rw (← c.before_next.ensures, c.if-not-before_next.false))
 
 pub returns : goal.returns
-returns c = let e = c.loop-i.invariant.1 ∙ order-last c.args.file.now c.args.count c.loop-i.i c.loop-i-test.false in cc
+returns c = let e = c.loop-i.invariant.1 ∙ order-last c.args.file.now c.args.count c.loop-i.i (omega (arith, c.loop-i-test.false)) in let last : c.loop-i.i ≡ c.args.count - 1 = omega arith in rw (← last) (cc)

@@ -7,6 +7,3 @@ use Rattle.daybook_file.proofs.in_place.Given as goal
 
 abbrev pub invariant-loop-i : goal.invariant-loop-i
 invariant-loop-i l = (l.i < l.count) × (in_place l.file l.count ≡ in_order l.file l.i (l.count - 1 - l.i))
-
-abbrev pub decreases-loop-i : goal.decreases-loop-i
-decreases-loop-i l = l.count - l.i

@@ -16,12 +16,6 @@ bounds-segments-i c = omega arith
 pub put_segment-at-requires : goal.put_segment-at-requires
 put_segment-at-requires c = omega (arith, c.loop-i.invariant.0.short, c.requires.1, c.loop-i.invariant.2, c.loop-i-test.true)
 
-pub overflow_add-i : goal.overflow_add-i
-overflow_add-i c = omega arith
-
-pub loop-i-smaller : goal.loop-i-smaller
-loop-i-smaller c = omega arith
-
 pub loop-i-preserved : goal.loop-i-preserved
 loop-i-preserved c =
     let a = c.args in

@@ -7,6 +7,3 @@ use Rattle.daybook_lines.proofs.put_segments.Given as goal
 
 abbrev pub invariant-loop-i : goal.invariant-loop-i
 invariant-loop-i l = Written l.initial.text (take l.count l.segments) l.text l.at l.i × (l.i ≤ l.count) × (length l.text ≡ length l.initial.text)
-
-abbrev pub decreases-loop-i : goal.decreases-loop-i
-decreases-loop-i l = l.count - l.i

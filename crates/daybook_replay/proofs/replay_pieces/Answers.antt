@@ -48,12 +48,6 @@ returns-then-not-goes_on c =
     let a = after l.book l.rows _ l.places (piece_at f l.i) l.bounds l.segments c.if-turn-lt-DAY_SEGMENTS.segments l.last c.if-turn-lt-DAY_SEGMENTS.last t.result l.invariant.plays l.invariant.full l.invariant.none e k in
     record { replays = c.ended.ensures ∙ loop-stops f _ _ l.rows l.places l.book l.bounds l.last l.segments l.i l.invariant _ l.places t.result c.if-turn-lt-DAY_SEGMENTS.segments c.if-turn-lt-DAY_SEGMENTS.last h a (sym c.goes_on.ensures ∙ c.if-not-goes_on.true); few = rw c.ended.ensures (listed_few t.result.book _ _ _ t.ensures.plays) }
 
-pub overflow_add-i : goal.overflow_add-i
-overflow_add-i c = omega (arith, c.loop-i-test.true)
-
-pub loop-i-smaller : goal.loop-i-smaller
-loop-i-smaller c = omega (arith, c.loop-i-test.true, c.piece_count-count.ensures)
-
 pub loop-i-preserved : goal.loop-i-preserved
 loop-i-preserved c =
     let f = c.args.file.now in

@@ -7,6 +7,3 @@ use Rattle.daybook_replay.proofs.replay_pieces.Given as goal
 
 abbrev pub invariant-loop-i : goal.invariant-loop-i
 invariant-loop-i l = Loops l.file l.initial.rows l.initial.places l.rows l.places l.book l.bounds l.last l.segments l.i
-
-abbrev pub decreases-loop-i : goal.decreases-loop-i
-decreases-loop-i l = piece_count l.file - l.i

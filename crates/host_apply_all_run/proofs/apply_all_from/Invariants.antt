@@ -8,6 +8,3 @@ use Rattle.host_apply_all_run.proofs.apply_all_from.Given as goal
 abbrev pub invariant-loop-i : goal.invariant-loop-i
 invariant-loop-i l =
     Looped l.initial.state l.initial.rows l.initial.segments l.messages l.initial.answers l.initial.places l.state l.rows l.segments l.answers l.places l.bounds l.i
-
-abbrev pub decreases-loop-i : goal.decreases-loop-i
-decreases-loop-i l = count_of l.messages - l.i

@@ -1,4 +1,5 @@
 -- Where `valid_book` answers a sequence, 1, 2 and 3 are passed: the rows are lent, and the best prices found are the line's.
+use Rattle.std.proofs.lemmas.Result.{err_from_is_err_and}
 use mathlib.Core.Bool.{false}
 use Rattle.book.specs.Memory.{memory}
 use Rattle.reconstructor_checks.proofs.StateChecks.{rows-ready}
@@ -10,25 +11,26 @@ pub best_bid-requires : goal.best_bid-requires
 best_bid-requires c =
     let a = c.args in
     let m = memory a.rows.now in
-    let v = found-valid a.top a.book m false _ c.valid_book.ensures _ c.in-Ok.is in
+    let v = found-valid a.top a.book m false _ c.valid_book.ensures _ c.in_ok-valid_book.was in
     rows-ready a.top a.book m c.requires v.2.trusted
 
 pub best_ask-requires : goal.best_ask-requires
 best_ask-requires c =
     let a = c.args in
     let m = memory a.rows.now in
-    let v = found-valid a.top a.book m false _ c.valid_book.ensures _ c.in-Ok.is in
+    let v = found-valid a.top a.book m false _ c.valid_book.ensures _ c.in_ok-valid_book.was in
     rows-ready a.top a.book m c.requires v.2.trusted
 
-pub returns-in-Err : goal.returns-in-Err
+pub returns-in_err-valid_book : goal.returns-in_err-valid_book
 unfolding best_of
-returns-in-Err c =
+returns-in_err-valid_book c =
     let a = c.args in
-    rw (refused-for a.top a.book (memory a.rows.now) false _ c.valid_book.ensures _ c.in-Err.is)
+    let p = err_from_is_err_and c.from_residual.result c.from_residual.ensures.1 in
+    rw (p.1, p.2, refused-for a.top a.book (memory a.rows.now) false _ c.valid_book.ensures _ c.in_err-valid_book.was)
 
-pub returns-in-Ok : goal.returns-in-Ok
+pub returns : goal.returns
 unfolding best_of
-returns-in-Ok c =
+returns c =
     let a = c.args in
-    let v = found-valid a.top a.book (memory a.rows.now) false _ c.valid_book.ensures _ c.in-Ok.is in
+    let v = found-valid a.top a.book (memory a.rows.now) false _ c.valid_book.ensures _ c.in_ok-valid_book.was in
     rw (v.0, c.best_bid.ensures, c.best_ask.ensures)
