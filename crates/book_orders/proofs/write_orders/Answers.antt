@@ -2,7 +2,7 @@
 -- so each row's entry fits.
 use mathlib.Core.Path.{refl}
 use native.Mathlib.Omega.{arith}
-use Rattle.book_queue.proofs.Orders.{writes_start, writes-room, writes-next, writes_all}
+use Rattle.book_queue.proofs.Orders.{writes_start, writes-room, writes-next}
 use Rattle.book_orders.proofs.write_orders.Goals as goal
 
 pub loop-i-init : goal.loop-i-init
@@ -13,6 +13,3 @@ write_row-at-requires c = let r = writes-room c.args.form c.args.side c.args.pri
 
 pub loop-i-preserved : goal.loop-i-preserved
 loop-i-preserved c = (writes-next c.args.form c.args.side c.args.price c.args.rows.now c.args.n c.args.out.now c.loop-i.out c.loop-i.at c.loop-i.i c.loop-i.invariant.0 c.loop-i-test.true _ _ (rw c.get_row.ensures at c.write_row-at.ensures.value) (rw c.get_row.ensures at c.write_row-at.ensures.out_after), omega (arith, c.write_row-at.auto.out, c.loop-i.invariant.1))
-
-pub returns : goal.returns
-returns c = writes_all c.args.form c.args.side c.args.price c.args.rows.now c.args.n c.args.out.now c.loop-i.out c.loop-i.at c.loop-i.i c.loop-i.invariant.0 c.loop-i-test.false
