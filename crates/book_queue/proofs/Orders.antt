@@ -145,7 +145,3 @@ module _ (f : EntryForm) (s : L3Side) (p : ℕ) (ws : List ℕ) (n : ℕ) (out�
       ∙ entries_append f (rows_at s p (rows_of ws (i + 1))) (rows_at s p (rows_from ws (i + 1) (n - (i + 1)))) in
       let z = ap length q ∙ length-append (so_far f s p ws (i + 1)) (entries_words f (rows_at s p (rows_from ws (i + 1) (n - (i + 1))))) in
       omega (arith, place_after, z)
-
-pub writes_all : (f : EntryForm) (s : L3Side) (p : ℕ) (ws : List ℕ) (n : ℕ) (out₀ out : List ℕ) (at i : ℕ) → Writes f s p ws n out₀ out at i → n ≤ i
-    → out ≡ written (so_far f s p ws n) out₀
-writes_all f s p ws n out₀ out at i w h = let e : i ≡ n = omega (arith, w.some) in rw (← e) w.words
