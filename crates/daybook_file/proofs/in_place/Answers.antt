@@ -1,7 +1,7 @@
 -- The loop keeps that the pieces are in place exactly if those from `i` on are in order: a turn tests piece `i` against the next (`order-next`), and the last
 -- one is tested against the file's end (`order-last`).
 use native.Mathlib.Omega.{arith}
-use mathlib.Core.Path.{sym, ◌∙◌}
+use mathlib.Core.Path.{◌≡◌, sym, ◌∙◌}
 use Rattle.daybook_file.proofs.Days.{placed-none, placed-early, placed_first, order-next, order-last}
 use Rattle.daybook_file.proofs.in_place.Goals as goal
 
