@@ -80,8 +80,8 @@ pub struct Tally {
 impl From<ViewError> for QueueError {
     ghost from_gives = { λ why e. e ≡ View why };
 
-    fn from(why: ViewError) -> QueueError {
-        QueueError::View(why)
+    fn from(why: ViewError) -> Self {
+        Self::View(why)
     }
 }
 
