@@ -12,7 +12,7 @@ use lib.Dec.{ltb}
 use lib.ListN.{length, get_or, length-append}
 use Rattle.std.specs.Fmt.{digit_glyph, digits_onto, digits}
 use Rattle.std.specs.Fmt.{decimal as Fmt·decimal}
-use Rattle.text.specs.Decimal.{digit, decimal_in, decimal}
+use Rattle.text.specs.Decimal.{digit, decimal_in, decimal, most_digits}
 use Rattle.text.specs.Digits.{number_from, AllDigits, IsDecimal}
 
 -- ---- by tens
@@ -120,3 +120,17 @@ printed_onto (suc k) n ds h = go (ltb n 10) refl (λ _. printed_onto k (n / 10) 
 pub printed : (n : ℕ) → n < 18446744073709551616 → Fmt·decimal n ≡ decimal n
 unfolding digits
 printed n h = printed_onto 63 n [] (omega arith) ∙ append-nil (decimal n)
+
+-- ---- how many there are
+
+decimal_most : (k n : ℕ) → n < tens k → length (decimal n) ≤ suc k
+decimal_most zero n h = rw (decimal-last n (omega arith)) (omega arith)
+decimal_most (suc k) n h = go (ltb n 10) refl (decimal_most k (n / 10) (omega arith))
+  where
+    go : (b : Bool) → ltb n 10 ≡ b → length (decimal (n / 10)) ≤ suc k → length (decimal n) ≤ suc (suc k)
+    go true e r = rw (decimal-last n (omega (arith, ltb-true n 10 e))) (omega arith)
+    go false e r = rw (decimal-next n (omega (arith, ltb-false n 10 e))) (rw (length-append (decimal (n / 10)) (digit (n % 10) ∷ [])) (omega arith))
+
+-- of a 64-bit number
+pub decimal-short : (n : ℕ) → n < 18446744073709551616 → length (decimal n) ≤ most_digits
+decimal-short n h = decimal_most 19 n (omega arith)

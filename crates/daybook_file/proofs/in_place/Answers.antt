@@ -1,5 +1,6 @@
 -- The loop keeps that the pieces are in place exactly if those from `i` on are in order: a turn tests piece `i` against the next (`order-next`), and the last
 -- one is tested against the file's end (`order-last`).
+use Prim.Native.Nat.{◌-◌}
 use native.Mathlib.Omega.{arith}
 use mathlib.Core.Path.{◌≡◌, sym, ◌∙◌}
 use Rattle.daybook_file.proofs.Days.{placed-none, placed-early, placed_first, order-next, order-last}
