@@ -32,4 +32,7 @@ loop-i-preserved c =
     (omega (arith, c.loop-i-test.true), c.loop-i.invariant.1 ∙ order-next f c.args.count c.loop-i.i (omega (arith, c.loop-i-test.true)) ∙ rw (← c.before_next.ensures, c.if-not-before_next.false))
 
 pub returns : goal.returns
-returns c = let e = c.loop-i.invariant.1 ∙ order-last c.args.file.now c.args.count c.loop-i.i (omega (arith, c.loop-i-test.false)) in let last : c.loop-i.i ≡ c.args.count - 1 = omega arith in rw (← last) (cc)
+returns c =
+    let e = c.loop-i.invariant.1 ∙ order-last c.args.file.now c.args.count c.loop-i.i (omega (arith, c.loop-i-test.false)) in
+    let last : c.loop-i.i ≡ c.args.count - 1 = omega arith in
+    rw (c.piece_end.ensures, ← last) (sym e)
