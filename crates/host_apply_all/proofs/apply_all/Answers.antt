@@ -29,8 +29,8 @@ apply_all_few-requires c = ready c.args.state.now c.args.rows.now c.args.segment
 pub apply_all_many-requires : goal.apply_all_many-requires
 apply_all_many-requires c = ready c.args.state.now c.args.rows.now c.args.segments.now c.args.messages.now c.args.answers.now (passed c.args.state.now (extent_of (memory c.args.rows.now)) (less c.args.state.now c.args.segments.now) false false (eq-eqb _ _ (sym (c.boundary-stop.ensures ∙ ap (λ (x : Bool). boundary c.args.state.now (extent_of (memory c.args.rows.now)) x false false) c.list_short-less.ensures) ∙ c.if-stop-ne0.false))) c.load_book-book.result c.load_book-book.ensures c.own_checks.result c.own_checks.ensures c.in-Ok.is c.if-answers-messages.false
 
-pub returns-in-Refused : goal.returns-in-Refused
-returns-in-Refused c = run-refused c.args.state.now c.args.rows.now c.args.segments.now c.args.messages.now c.args.answers.now (passed c.args.state.now (extent_of (memory c.args.rows.now)) (less c.args.state.now c.args.segments.now) false false (eq-eqb _ _ (sym (c.boundary-stop.ensures ∙ ap (λ (x : Bool). boundary c.args.state.now (extent_of (memory c.args.rows.now)) x false false) c.list_short-less.ensures) ∙ c.if-stop-ne0.false))) c.load_book-book.result c.load_book-book.ensures c.own_checks.result c.own_checks.ensures _ c.in-Refused.is _ c.number.ensures
+pub returns-in-Err : goal.returns-in-Err
+returns-in-Err c = run-refused c.args.state.now c.args.rows.now c.args.segments.now c.args.messages.now c.args.answers.now (passed c.args.state.now (extent_of (memory c.args.rows.now)) (less c.args.state.now c.args.segments.now) false false (eq-eqb _ _ (sym (c.boundary-stop.ensures ∙ ap (λ (x : Bool). boundary c.args.state.now (extent_of (memory c.args.rows.now)) x false false) c.list_short-less.ensures) ∙ c.if-stop-ne0.false))) c.load_book-book.result c.load_book-book.ensures c.own_checks.result c.own_checks.ensures _ c.in-Err.is _ c.number.ensures
 
 pub returns-then-book-le-FEW_ROWS : goal.returns-then-book-le-FEW_ROWS
 returns-then-book-le-FEW_ROWS c = run-passed c.args.state.now c.args.rows.now c.args.segments.now c.args.messages.now c.args.answers.now (passed c.args.state.now (extent_of (memory c.args.rows.now)) (less c.args.state.now c.args.segments.now) false false (eq-eqb _ _ (sym (c.boundary-stop.ensures ∙ ap (λ (x : Bool). boundary c.args.state.now (extent_of (memory c.args.rows.now)) x false false) c.list_short-less.ensures) ∙ c.if-stop-ne0.false))) c.load_book-book.result c.load_book-book.ensures c.own_checks.result c.own_checks.ensures _ c.in-Ok.is c.if-answers-messages.false c.apply_all_few.ensures

@@ -17,4 +17,4 @@ load_book-requires c = (passed c.args.state.now (extent_of (memory c.args.rows.n
 
 pub returns : goal.returns
 unfolding audit_call
-returns c = goes_on _ _ (λ (n : ℕ). n) _ _ c.boundary-stop.ensures c.if-stop-ne0.false (rw (← c.load_book.ensures) (c.number.ensures ∙ ap (λ x. (audited_told x).number) c.audit-answer.ensures.value))
+returns c = goes_on _ _ (λ (n : ℕ). n) _ _ c.boundary-stop.ensures c.if-stop-ne0.false (rw (← c.load_book.ensures) (c.audited_number.ensures ∙ ap (λ x. (audited_told x).number) c.audit-answer.ensures.value))
