@@ -58,8 +58,8 @@ def own_results(files):
             loaded = [v for v in variants if v[1]]
             refusing = [v for v in variants if re.search(ERRORS, v[1]) or re.match(r"Refused|Unusable|Stop|Broken|OutputTooSmall|OtherSegment|AmountOutOfRange|NotLent", v[0])]
             two = len(variants) == 2 and len(loaded) == 1
-            mixed = refusing and len(refusing) < len(variants) and not re.search(r"(Error|Kind|Discrepancy|Reason)$", m.group(1))
-            if two or mixed:
+            mixed = refusing and len(refusing) < len(variants)
+            if (two or mixed) and not re.search(r"(Error|Finding|Kind|Discrepancy|Reason)$", m.group(1)):
                 yield n, t.count("\n", 0, m.start()) + 1, m.group(1)
 
 
@@ -69,7 +69,7 @@ def flags(files):
         for m in re.finditer(r"struct (\w+) \{\n(.*?)^\}", t, re.M | re.S):
             for f in re.finditer(r"^    (?:pub )?(\w+): bool,", m.group(2), re.M):
                 yield n, t.count("\n", 0, m.start()) + 1, f"{m.group(1)}.{f.group(1)}"
-            for f in re.finditer(r"^    (?:pub )?(decreased|end|kind|piece|number): (?:u64|usize),", m.group(2), re.M):
+            for f in re.finditer(r"^    (?:pub )?(decreased|end|kind|number): (?:u64|usize),", m.group(2), re.M):
                 yield n, t.count("\n", 0, m.start()) + 1, f"{m.group(1)}.{f.group(1)}"
 
 

@@ -22,7 +22,7 @@ fn read_event(s: &[u8]) -> Option<L3Event>
         4 => piece_events::read_match(s),
         5 => piece_changes::read_change(s),
         6 => piece_events::read_unsupported(s),
-        _ => None,
+        0 | 7..=255 => None,
     }
 }
 
