@@ -25,22 +25,13 @@ pub struct Header {
 pub fn least(a: usize, b: usize) -> usize
     ensures { (result ≤ a) × (result ≤ b) × (result ≡ min a b) }
 {
-    if a < b { a } else { b }
-}
-
-fn wide(b: u8) -> u64
-    ensures { (result ≡ b) × (result < 256) }
-{
-    b as u64
+    a.min(b)
 }
 
 fn byte(s: &[u8], i: usize) -> u64
     ensures { (result ≡ get_or s.now i 0) × (result < 256) }
 {
-    if i < s.len() {
-        return wide(s[i]);
-    }
-    0
+    s.get(i).map_or(0, |b| u64::from(*b))
 }
 
 fn half(s: &[u8], at: usize) -> u64
@@ -82,14 +73,12 @@ pub fn read_header(s: &[u8]) -> Header
 pub fn load(words: &mut [u64], first: usize, bytes: &[u8])
     ensures { words.new ≡ loaded words.old first bytes.now }
 {
-    let mut i = first;
     let mut rest: &[u8] = bytes;
-    while i < words.len() {
+    for i in first..words.len() {
         if rest.len() < 8 {
             return;
         }
         words[i] = word(rest, 0);
         rest = &rest[8..];
-        i += 1;
     }
 }
