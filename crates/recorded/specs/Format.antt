@@ -21,8 +21,12 @@
 --   16 invalidation
 --   17 segment               its place in the list
 -- Any other is answered by a line without a number. A list ends where fewer bytes are left than a call has.
-use Rattle.std.specs.Prelude.{ℕ, zero, suc, ◌+◌, ◌-◌, ◌*◌, List, cond, ltb, length, get_or, set, drop}
+use Rattle.std.specs.Prelude.{ℕ, zero, suc, ◌+◌, ◌-◌, ◌*◌, List, [], ◌∷◌, cond, ltb, length, get_or, set, drop}
 use Rattle.recorded.specs.declared.Header.{Header}
+use Rattle.recorded.specs.declared.Operation.{Operation}
+use Rattle.recorded.specs.declared.Operation.TheVariants.{Create, Write, Bootstrap, Apply, Handshake, Step, LastSequence, Best, Audit, LevelQueue, PriorityProfile, L2, StaleL2, QueueEstimate, QueueEstimateOwn, VolumeAhead, Invalidation, Segment, Unknown}
+use Rattle.recorded.specs.declared.Voice.{Voice}
+use Rattle.recorded.specs.declared.Voice.TheVariants.{Rust, Runner, Model}
 
 abbrev pub half_at : List ℕ → ℕ → ℕ
 half_at bytes at = get_or bytes at 0 + 256 * get_or bytes (at + 1) 0
@@ -31,11 +35,23 @@ abbrev pub word_at : List ℕ → ℕ → ℕ
 word_at bytes at =
     half_at bytes at + 65536 * half_at bytes (at + 2) + 4294967296 * half_at bytes (at + 4) + 281474976710656 * half_at bytes (at + 6)
 
+-- the calls by their numbers
+abbrev pub operations : List Operation
+operations =
+    Create ∷ Write ∷ Bootstrap ∷ Apply ∷ Handshake ∷ Step ∷ LastSequence ∷ Best ∷ Audit ∷ LevelQueue ∷ PriorityProfile ∷ L2 ∷ StaleL2 ∷ QueueEstimate
+    ∷ QueueEstimateOwn ∷ VolumeAhead ∷ Invalidation ∷ Segment ∷ []
+
+abbrev pub operation_of : ℕ → Operation
+operation_of number = get_or operations number Unknown
+
+abbrev pub voice_of : ℕ → Voice
+voice_of number = get_or (Rust ∷ Runner ∷ []) number Model
+
 unfoldable pub header_of : List ℕ → Header
 header_of bytes =
     record {
-      operation = get_or bytes 0 0;
-      voice = get_or bytes 1 0;
+      operation = operation_of (get_or bytes 0 0);
+      voice = voice_of (get_or bytes 1 0);
       payload = half_at bytes 2;
       rows = half_at bytes 4;
       segments = half_at bytes 6;
