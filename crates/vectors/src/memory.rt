@@ -1,7 +1,4 @@
 // Words of memory: what stands in it at first, and digests. Both are those of tools/oracle (LINES.md): products are modulo 2^64.
-ghost use Rattle.std.specs.Prelude.{◌<◌};
-
-use std::num::wrapping_add_u64;
 
 // The most words that a call is lent: specs/Format.antt of crate `recorded` has them.
 pub const ROWS: usize = 2048;
@@ -14,83 +11,43 @@ pub const OUTPUT: usize = 1280;
 
 pub const AHEAD: usize = 768;
 
-fn low(x: u64) -> u64
-    ensures { result < 4294967296 }
-{
-    x % 4294967296
+// The memory of a book, as far as a call is lent it.
+#[derive(Drop)]
+pub struct Book<'a> {
+    pub state: &'a mut [u64],
+    pub rows: &'a mut [u64],
+    pub segments: &'a mut [u64],
 }
 
-fn high(x: u64) -> u64
-    ensures { result < 4294967296 }
-{
-    x / 4294967296
-}
-
-fn shifted(x: u64) -> u64 {
-    low(x) * 4294967296
-}
-
-// x * 0x9E3779B97F4A7C15
-fn times_step(x: u64) -> u64 {
-    let cross = wrapping_add_u64(low(x) * 2654435769, high(x) * 2135587861);
-    wrapping_add_u64(low(x) * 2135587861, shifted(cross))
-}
-
-// x * 0xBF58476D1CE4E5B9
-fn times_first(x: u64) -> u64 {
-    let cross = wrapping_add_u64(low(x) * 3210233709, high(x) * 484763065);
-    wrapping_add_u64(low(x) * 484763065, shifted(cross))
-}
-
-// x * 0x94D049BB133111EB
-fn times_second(x: u64) -> u64 {
-    let cross = wrapping_add_u64(low(x) * 2496678331, high(x) * 321982955);
-    wrapping_add_u64(low(x) * 321982955, shifted(cross))
-}
+// Between the numbers that neighbouring words are made from; a digest multiplies by it too.
+const STEP: u64 = 0x9E3779B97F4A7C15;
 
 fn mixed(z: u64) -> u64 {
-    let a = times_first(z ^ (z >> 30));
-    let b = times_second(a ^ (a >> 27));
+    let a = (z ^ (z >> 30)).wrapping_mul(0xBF58476D1CE4E5B9);
+    let b = (a ^ (a >> 27)).wrapping_mul(0x94D049BB133111EB);
     b ^ (b >> 31)
-}
-
-fn fresh(seed: u64, z: u64) -> u64 {
-    if seed == 0 {
-        return 0;
-    }
-    mixed(z)
 }
 
 // Words that a seed gives; 0 gives zeros.
 pub fn fill(words: &mut [u64], seed: u64) {
-    let mut z = seed;
-    let mut i: usize = 0;
-    while i < words.len() {
-        words[i] = fresh(seed, z);
-        z = wrapping_add_u64(z, 11400714819323198485);
-        i += 1;
+    if seed == 0 {
+        words.fill(0);
+        return;
     }
-}
-
-fn taken(d: u64, word: u64) -> u64 {
-    let x = times_step(d ^ word);
-    (x << 29) | (x >> 35)
+    let mut z = seed;
+    for word in words.iter_mut() {
+        *word = mixed(z);
+        z = z.wrapping_add(STEP);
+    }
 }
 
 pub fn digest(words: &[u64]) -> u64 {
-    let mut d: u64 = 14695981039346656037;
-    let mut i: usize = 0;
-    while i < words.len() {
-        d = taken(d, words[i]);
-        i += 1;
-    }
-    d
+    words.iter().fold(0xCBF29CE484222325, |d, word| {
+        (d ^ *word).wrapping_mul(STEP).rotate_left(29)
+    })
 }
 
 // The word at a place, 0 past the end.
 pub fn word(words: &[u64], i: usize) -> u64 {
-    if i < words.len() {
-        return words[i];
-    }
-    0
+    *words.get(i).unwrap_or(&0)
 }
