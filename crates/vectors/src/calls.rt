@@ -66,10 +66,10 @@ pub fn apply(to: Stdout, payload: &[u8], book: &mut Book<'_>) -> io::Result<()> 
 }
 
 // Makes a handshake of the segment that the book is in.
-pub fn begin(to: Stdout, state: &[u64]) -> io::Result<()> {
+pub fn begin(to: Stdout, book: &Book<'_>) -> io::Result<()> {
     let mut value = [0u64; HANDSHAKE_WORDS];
-    let number = host::pinuglaw_handshake(state, &mut value);
-    show(to, number, state, &value)?;
+    let number = host::pinuglaw_handshake(book.state, &mut value);
+    show(to, number, book.state, &value)?;
     println!(to)
 }
 
@@ -99,56 +99,56 @@ fn show(to: Stdout, number: u64, state: &[u64], words: &[u64]) -> io::Result<()>
     Ok(())
 }
 
-pub fn last_sequence(to: Stdout, state: &[u64], rows: &[u64]) -> io::Result<()> {
+pub fn last_sequence(to: Stdout, book: &Book<'_>) -> io::Result<()> {
     let mut out = [0u64; LAST_SEQUENCE_WORDS];
-    let number = host::pinuglaw_last_sequence(state, rows, &mut out);
-    show(to, number, state, &out)?;
+    let number = host::pinuglaw_last_sequence(book.state, book.rows, &mut out);
+    show(to, number, book.state, &out)?;
     println!(to)
 }
 
-pub fn best(to: Stdout, state: &[u64], rows: &[u64]) -> io::Result<()> {
+pub fn best(to: Stdout, book: &Book<'_>) -> io::Result<()> {
     let mut out = [0u64; BEST_WORDS];
-    let number = host::pinuglaw_best(state, rows, &mut out);
-    show(to, number, state, &out)?;
+    let number = host::pinuglaw_best(book.state, book.rows, &mut out);
+    show(to, number, book.state, &out)?;
     println!(to)
 }
 
-pub fn audit(to: Stdout, state: &[u64], rows: &[u64]) -> io::Result<()> {
-    print::answer(to, host::pinuglaw_audit(state, rows), state)?;
+pub fn audit(to: Stdout, book: &Book<'_>) -> io::Result<()> {
+    let number = host::pinuglaw_audit(book.state, book.rows);
+    print::answer(to, number, book.state)?;
     println!(to)
 }
 
-pub fn invalidation(to: Stdout, state: &[u64]) -> io::Result<()> {
+pub fn invalidation(to: Stdout, book: &Book<'_>) -> io::Result<()> {
     let mut out = [0u64; INVALIDATION_WORDS];
-    let number = host::pinuglaw_invalidation(state, &mut out);
-    show(to, number, state, &out)?;
+    let number = host::pinuglaw_invalidation(book.state, &mut out);
+    show(to, number, book.state, &out)?;
     println!(to)
 }
 
-pub fn segment(to: Stdout, h: Header, state: &[u64], segments: &[u64]) -> io::Result<()> {
+pub fn segment(to: Stdout, h: Header, book: &Book<'_>) -> io::Result<()> {
     let mut out = [0u64; RECORD_WORDS];
-    let number = host::pinuglaw_segment(state, segments, h.first as usize, &mut out);
-    show(to, number, state, &out)?;
+    let number = host::pinuglaw_segment(book.state, book.segments, h.first as usize, &mut out);
+    show(to, number, book.state, &out)?;
     println!(to)
 }
 
 fn level_call(
     h: Header,
-    state: &[u64],
-    rows: &[u64],
+    book: &Book<'_>,
     scratch: &mut [u64],
     out: &mut [u64],
     count: &mut [u64],
 ) -> u64 {
     match h.operation {
         Operation::LevelQueue => {
-            host::pinuglaw_level_queue(state, rows, scratch, h.which, h.first, out, count)
+            host::pinuglaw_level_queue(book.state, book.rows, scratch, h.which, h.first, out, count)
         }
         Operation::PriorityProfile => {
-            host::pinuglaw_priority_profile(state, rows, scratch, h.which, out, count)
+            host::pinuglaw_priority_profile(book.state, book.rows, scratch, h.which, out, count)
         }
-        Operation::L2 => host::pinuglaw_l2(state, rows, scratch, h.which, out, count),
-        _ => host::pinuglaw_stale_l2(state, rows, scratch, h.which, out, count),
+        Operation::L2 => host::pinuglaw_l2(book.state, book.rows, scratch, h.which, out, count),
+        _ => host::pinuglaw_stale_l2(book.state, book.rows, scratch, h.which, out, count),
     }
 }
 
@@ -171,62 +171,68 @@ fn show_entries(to: Stdout, out: &[u64], entries: u64, each: usize) -> io::Resul
 fn level_lent(
     to: Stdout,
     h: Header,
-    state: &[u64],
-    rows: &[u64],
+    book: &Book<'_>,
     scratch: &mut [u64],
     out: &mut [u64],
 ) -> io::Result<()> {
     let mut count = [0u64; COUNT_WORDS];
     fill(scratch, 1);
     fill(out, 2);
-    let number = level_call(h, state, rows, scratch, out, &mut count);
-    show(to, number, state, &count)?;
+    let number = level_call(h, book, scratch, out, &mut count);
+    show(to, number, book.state, &count)?;
     if number == 0 {
         show_entries(to, out, count[0], entry_words(h.operation))?;
     }
     println!(to; " ; {} {}", digest(scratch), digest(out))
 }
 
-pub fn level_read(to: Stdout, h: Header, state: &[u64], rows: &[u64]) -> io::Result<()> {
+pub fn level_read(to: Stdout, h: Header, book: &Book<'_>) -> io::Result<()> {
     let mut scratch = [0u64; SCRATCH];
     let mut out = [0u64; OUTPUT];
     let s = h.scratch.min(SCRATCH);
     let o = h.output.min(OUTPUT);
-    level_lent(to, h, state, rows, &mut scratch[..s], &mut out[..o])
+    level_lent(to, h, book, &mut scratch[..s], &mut out[..o])
 }
 
-fn estimate_lent(
-    to: Stdout,
-    h: Header,
-    state: &[u64],
-    rows: &[u64],
-    ahead: &mut [u64],
-) -> io::Result<()> {
+fn estimate_lent(to: Stdout, h: Header, book: &Book<'_>, ahead: &mut [u64]) -> io::Result<()> {
     let mut estimate = [0u64; ESTIMATE_WORDS];
     fill(ahead, 3);
-    let number = host::pinuglaw_queue_estimate(state, rows, h.which, h.first, ahead, &mut estimate);
-    show(to, number, state, &estimate)?;
+    let number = host::pinuglaw_queue_estimate(
+        book.state,
+        book.rows,
+        h.which,
+        h.first,
+        ahead,
+        &mut estimate,
+    );
+    show(to, number, book.state, &estimate)?;
     if number == 0 {
         show_entries(to, ahead, estimate[ESTIMATE_ORDERS], AHEAD_ENTRY_WORDS)?;
     }
     println!(to; " ; {}", digest(ahead))
 }
 
-pub fn queue_estimate(to: Stdout, h: Header, state: &[u64], rows: &[u64]) -> io::Result<()> {
+pub fn queue_estimate(to: Stdout, h: Header, book: &Book<'_>) -> io::Result<()> {
     let mut ahead = [0u64; AHEAD];
     let a = h.ahead.min(AHEAD);
-    estimate_lent(to, h, state, rows, &mut ahead[..a])
+    estimate_lent(to, h, book, &mut ahead[..a])
 }
 
-pub fn queue_estimate_own(to: Stdout, h: Header, state: &[u64], rows: &[u64]) -> io::Result<()> {
+pub fn queue_estimate_own(to: Stdout, h: Header, book: &Book<'_>) -> io::Result<()> {
     let mut estimate = [0u64; ESTIMATE_WORDS];
-    let number = host::pinuglaw_queue_estimate_own(state, rows, h.first, h.second, &mut estimate);
-    show(to, number, state, &estimate)?;
+    let number = host::pinuglaw_queue_estimate_own(
+        book.state,
+        book.rows,
+        h.first,
+        h.second,
+        &mut estimate,
+    );
+    show(to, number, book.state, &estimate)?;
     println!(to)
 }
 
 // The volume ahead of the recorded estimate: its eight words, and then its list.
-pub fn volume_ahead(to: Stdout, payload: &[u8], state: &[u64], rows: &[u64]) -> io::Result<()> {
+pub fn volume_ahead(to: Stdout, payload: &[u8], book: &Book<'_>) -> io::Result<()> {
     let mut estimate = [0u64; ESTIMATE_WORDS];
     let mut list = [0u64; AHEAD];
     let mut out = [0u64; VOLUME_WORDS];
@@ -235,7 +241,13 @@ pub fn volume_ahead(to: Stdout, payload: &[u8], state: &[u64], rows: &[u64]) -> 
     load(&mut estimate, 0, payload);
     load(&mut list, 0, rest);
     let n = (rest.len() / WORD_BYTES).min(AHEAD);
-    let number = host::pinuglaw_volume_ahead(state, rows, &estimate, &list[..n], &mut out);
-    show(to, number, state, &out)?;
+    let number = host::pinuglaw_volume_ahead(
+        book.state,
+        book.rows,
+        &estimate,
+        &list[..n],
+        &mut out,
+    );
+    show(to, number, book.state, &out)?;
     println!(to)
 }

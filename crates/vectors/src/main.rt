@@ -15,21 +15,6 @@ use std::io::{self, Print, Read, Stdout};
 // The most input that is read: the recorded calls have less.
 const INPUT_BYTES: u64 = 524288;
 
-// A call that reads the book.
-fn read(to: Stdout, h: Header, payload: &[u8], book: &Book<'_>) -> io::Result<()> {
-    match h.operation {
-        Operation::LastSequence => calls::last_sequence(to, book.state, book.rows),
-        Operation::Best => calls::best(to, book.state, book.rows),
-        Operation::Audit => calls::audit(to, book.state, book.rows),
-        Operation::QueueEstimate => calls::queue_estimate(to, h, book.state, book.rows),
-        Operation::QueueEstimateOwn => calls::queue_estimate_own(to, h, book.state, book.rows),
-        Operation::VolumeAhead => calls::volume_ahead(to, payload, book.state, book.rows),
-        Operation::Invalidation => calls::invalidation(to, book.state),
-        Operation::Segment => calls::segment(to, h, book.state, book.segments),
-        _ => calls::level_read(to, h, book.state, book.rows),
-    }
-}
-
 fn perform(to: Stdout, h: Header, payload: &[u8], book: &mut Book<'_>) -> io::Result<()> {
     let voice = print::voice(h.voice);
     let name = print::name(h.operation);
@@ -39,10 +24,20 @@ fn perform(to: Stdout, h: Header, payload: &[u8], book: &mut Book<'_>) -> io::Re
         Operation::Write => calls::write(to, h, payload, book),
         Operation::Bootstrap => calls::bootstrap(to, payload, book),
         Operation::Apply => calls::apply(to, payload, book),
-        Operation::Handshake => calls::begin(to, book.state),
+        Operation::Handshake => calls::begin(to, book),
         Operation::Step => calls::step(to, payload, book),
+        Operation::LastSequence => calls::last_sequence(to, book),
+        Operation::Best => calls::best(to, book),
+        Operation::Audit => calls::audit(to, book),
+        Operation::LevelQueue | Operation::PriorityProfile | Operation::L2 | Operation::StaleL2 => {
+            calls::level_read(to, h, book)
+        }
+        Operation::QueueEstimate => calls::queue_estimate(to, h, book),
+        Operation::QueueEstimateOwn => calls::queue_estimate_own(to, h, book),
+        Operation::VolumeAhead => calls::volume_ahead(to, payload, book),
+        Operation::Invalidation => calls::invalidation(to, book),
+        Operation::Segment => calls::segment(to, h, book),
         Operation::Unknown => println!(to),
-        _ => read(to, h, payload, book),
     }
 }
 
