@@ -3,7 +3,7 @@
 use Rattle.std.specs.Prelude.{Option, Some, None}
 use Prim.Native.Nat.{ℕ, zero, suc, ◌+◌, ◌<◌, ◌≤◌}
 use mathlib.Core.Path.{◌≡◌, refl, sym, ap, ◌∙◌}
-use mathlib.Core.Bool.{Bool, true, false, not, ◌||◌, ◌&&◌, cond}
+use mathlib.Core.Bool.{Bool, true, false, ◌||◌, ◌&&◌, cond}
 use mathlib.Core.List.{List, [], ◌∷◌, ◌++◌}
 use native.Mathlib.Nat.{add-zero, zero-add}
 use native.Mathlib.Numerals.{add-one}
@@ -26,7 +26,7 @@ use Rattle.book.proofs.Moves.{rests-front}
 use Rattle.book_buckets.specs.Buckets.{bucket_of}
 use Rattle.book_buckets.proofs.Chains.{bucket_lt}
 use Rattle.book_index.specs.declared.Bounds.{Bounds}
-use Rattle.book_index.specs.Index.{key_for, marked, bounded, row_marked, row_bounded, all, Indexed, marked_at, no_bounds, widened, clear_of}
+use Rattle.book_index.specs.Index.{key_for, marked, bounded, row_marked, row_bounded, all, Indexed, marked_at, widened, clear_of, clears}
 
 pub and_both : (a b : Bool) → a ≡ true → b ≡ true → (a && b) ≡ true
 and_both true b p q = q
@@ -65,7 +65,7 @@ pub marked-same : (places : List ℕ) (o : Resting) (r : ℕ) (mark : Option ℕ
 marked-same places o r None = refl
 marked-same places o r (Some t) = refl
 
-pub bounded-same : (b : Bounds) (o : Resting) (r : ℕ) (mark : Option ℕ) → row_bounded b (reduced o r mark) ≡ row_bounded b o
+pub bounded-same : (b : Option Bounds) (o : Resting) (r : ℕ) (mark : Option ℕ) → row_bounded b (reduced o r mark) ≡ row_bounded b o
 bounded-same b o r None = refl
 bounded-same b o r (Some t) = refl
 
@@ -73,23 +73,22 @@ none-marked : (d : OrderId) → marked [] d ≡ true
 unfolding marked
 none-marked d = refl
 
-none-bounded : (s : L3Side) (p : ℕ) → bounded no_bounds s p ≡ true
+none-bounded : (s : L3Side) (p : ℕ) → bounded None s p ≡ true
 unfolding bounded
-none-bounded Buy p = refl
-none-bounded Sell p = refl
+none-bounded s p = refl
 
 -- no places and no bounds say nothing of any orders
-pub unindexed : (os : List Resting) → id_twice (line_of os) ≡ false → Indexed [] no_bounds os
+pub unindexed : (os : List Resting) → id_twice (line_of os) ≡ false → Indexed [] None os
 unindexed os single = record { few = omega arith; marks = unmarked os; within = unbounded os; single = single }
   where
     unmarked : (os : List Resting) → all (row_marked []) os ≡ true
     unmarked [] = refl
     unmarked (o ∷ os) = and_both (row_marked [] o) (all (row_marked []) os) (none-marked (id_of o)) (unmarked os)
 
-    unbounded : (os : List Resting) → all (row_bounded no_bounds) os ≡ true
+    unbounded : (os : List Resting) → all (row_bounded None) os ≡ true
     unbounded [] = refl
     unbounded (o ∷ os) =
-        and_both (row_bounded no_bounds o) (all (row_bounded no_bounds) os) (none-bounded (side_of o.kind) o.price) (unbounded os)
+        and_both (row_bounded None o) (all (row_bounded None) os) (none-bounded (side_of o.kind) o.price) (unbounded os)
 
 -- ---- places
 
@@ -194,53 +193,49 @@ marks-next ws i o places next e q h =
 -- ---- bounds
 
 -- the larger, and the smaller, of two
-raised : (k : Bool) (a b q : ℕ) → (not k || leb q a) ≡ true → (not k || leb q (cond (ltb a b) b a)) ≡ true
-raised false a b q h = refl
-raised true a b q h = go (ltb a b) refl
+raised : (a b q : ℕ) → leb q a ≡ true → leb q (cond (ltb a b) b a) ≡ true
+raised a b q h = go (ltb a b) refl
   where
     go : (t : Bool) → ltb a b ≡ t → leb q (cond t b a) ≡ true
     go true e = le-leb q b (omega (arith, ltb-true a b e, leb-true q a h))
     go false e = h
 
-lowered : (k : Bool) (a b q : ℕ) → (not k || leb a q) ≡ true → (not k || leb (cond (ltb b a) b a) q) ≡ true
-lowered false a b q h = refl
-lowered true a b q h = go (ltb b a) refl
+lowered : (a b q : ℕ) → leb a q ≡ true → leb (cond (ltb b a) b a) q ≡ true
+lowered a b q h = go (ltb b a) refl
   where
     go : (t : Bool) → ltb b a ≡ t → leb (cond t b a) q ≡ true
     go true e = le-leb b q (omega (arith, ltb-true b a e, leb-true a q h))
     go false e = h
 
-pub bounded-kept : (b : Bounds) (s : L3Side) (p : ℕ) (t : L3Side) (q : ℕ) → bounded b t q ≡ true → bounded (widened b s p) t q ≡ true
+pub bounded-kept : (b : Bounds) (s : L3Side) (p : ℕ) (t : L3Side) (q : ℕ) → bounded (Some b) t q ≡ true → bounded (Some (widened b s p)) t q ≡ true
 unfolding bounded widened
-bounded-kept b Buy p Buy q h = raised b.known b.high_bid p q h
+bounded-kept b Buy p Buy q h = raised b.high_bid p q h
 bounded-kept b Buy p Sell q h = h
 bounded-kept b Sell p Buy q h = h
-bounded-kept b Sell p Sell q h = lowered b.known b.low_ask p q h
+bounded-kept b Sell p Sell q h = lowered b.low_ask p q h
 
-raised_now : (k : Bool) (a b : ℕ) (t : Bool) → ltb a b ≡ t → (not k || leb b (cond t b a)) ≡ true
-raised_now false a b t e = refl
-raised_now true a b true e = le-leb b b (omega arith)
-raised_now true a b false e = le-leb b a (ltb-false a b e)
+raised_now : (a b : ℕ) (t : Bool) → ltb a b ≡ t → leb b (cond t b a) ≡ true
+raised_now a b true e = le-leb b b (omega arith)
+raised_now a b false e = le-leb b a (ltb-false a b e)
 
-lowered_now : (k : Bool) (a b : ℕ) (t : Bool) → ltb b a ≡ t → (not k || leb (cond t b a) b) ≡ true
-lowered_now false a b t e = refl
-lowered_now true a b true e = le-leb b b (omega arith)
-lowered_now true a b false e = le-leb a b (ltb-false b a e)
+lowered_now : (a b : ℕ) (t : Bool) → ltb b a ≡ t → leb (cond t b a) b ≡ true
+lowered_now a b true e = le-leb b b (omega arith)
+lowered_now a b false e = le-leb a b (ltb-false b a e)
 
-pub bounded_now : (b : Bounds) (s : L3Side) (p : ℕ) → bounded (widened b s p) s p ≡ true
+pub bounded_now : (b : Bounds) (s : L3Side) (p : ℕ) → bounded (Some (widened b s p)) s p ≡ true
 unfolding bounded widened
-bounded_now b Buy p = raised_now b.known b.high_bid p (ltb b.high_bid p) refl
-bounded_now b Sell p = lowered_now b.known b.low_ask p (ltb p b.low_ask) refl
+bounded_now b Buy p = raised_now b.high_bid p (ltb b.high_bid p) refl
+bounded_now b Sell p = lowered_now b.low_ask p (ltb p b.low_ask) refl
 
-pub within-kept : (b : Bounds) (s : L3Side) (p : ℕ) (os : List Resting) → all (row_bounded b) os ≡ true → all (row_bounded (widened b s p)) os ≡ true
+pub within-kept : (b : Bounds) (s : L3Side) (p : ℕ) (os : List Resting) → all (row_bounded (Some b)) os ≡ true → all (row_bounded (Some (widened b s p))) os ≡ true
 within-kept b s p os h =
-    all_weaker (row_bounded b) (row_bounded (widened b s p)) (λ o. bounded-kept b s p (side_of o.kind) o.price) os h
+    all_weaker (row_bounded (Some b)) (row_bounded (Some (widened b s p))) (λ o. bounded-kept b s p (side_of o.kind) o.price) os h
 
 -- an open that is clear of them does not cross
-module _ (b : Bounds) (p : ℕ) (k : b.known ≡ true) where
-  above : (x : ℕ) (r : Option ℕ) → p < b.low_ask → bounded b Sell x ≡ true → meet (Some p) r ≡ false → meet (Some p) (better Sell x r) ≡ false
+module _ (b : Bounds) (p : ℕ) where
+  above : (x : ℕ) (r : Option ℕ) → p < b.low_ask → bounded (Some b) Sell x ≡ true → meet (Some p) r ≡ false → meet (Some p) (better Sell x r) ≡ false
   unfolding bounded
-  above x r lt h m = go r (leb-true b.low_ask x (rw k at h)) m
+  above x r lt h m = go r (leb-true b.low_ask x h) m
     where
       go : (r : Option ℕ) → b.low_ask ≤ x → meet (Some p) r ≡ false → meet (Some p) (better Sell x r) ≡ false
       go None q m = lt-leb x p (omega arith)
@@ -250,9 +245,9 @@ module _ (b : Bounds) (p : ℕ) (k : b.known ≡ true) where
           pick true = lt-leb x p (omega arith)
           pick false = m
 
-  below : (x : ℕ) (r : Option ℕ) → b.high_bid < p → bounded b Buy x ≡ true → meet r (Some p) ≡ false → meet (better Buy x r) (Some p) ≡ false
+  below : (x : ℕ) (r : Option ℕ) → b.high_bid < p → bounded (Some b) Buy x ≡ true → meet r (Some p) ≡ false → meet (better Buy x r) (Some p) ≡ false
   unfolding bounded
-  below x r lt h m = go r (leb-true x b.high_bid (rw k at h)) m
+  below x r lt h m = go r (leb-true x b.high_bid h) m
     where
       go : (r : Option ℕ) → x ≤ b.high_bid → meet r (Some p) ≡ false → meet (better Buy x r) (Some p) ≡ false
       go None q m = lt-leb p x (omega arith)
@@ -262,33 +257,30 @@ module _ (b : Bounds) (p : ℕ) (k : b.known ≡ true) where
           pick true = lt-leb p x (omega arith)
           pick false = m
 
-  sells : p < b.low_ask → (os : List Resting) → all (row_bounded b) os ≡ true → meet (Some p) (best Sell (line_of os)) ≡ false
+  sells : p < b.low_ask → (os : List Resting) → all (row_bounded (Some b)) os ≡ true → meet (Some p) (best Sell (line_of os)) ≡ false
   sells lt [] h = refl
   sells lt (o ∷ os) h =
-      let d = and_yes (row_bounded b o) (all (row_bounded b) os) h in
+      let d = and_yes (row_bounded (Some b) o) (all (row_bounded (Some b)) os) h in
       go (side_of o.kind) d.0 (sells lt os d.1)
     where
-      go : (s : L3Side) → bounded b s o.price ≡ true → meet (Some p) (best Sell (line_of os)) ≡ false
+      go : (s : L3Side) → bounded (Some b) s o.price ≡ true → meet (Some p) (best Sell (line_of os)) ≡ false
           → meet (Some p) (cond (same_side s Sell) (better Sell o.price (best Sell (line_of os))) (best Sell (line_of os))) ≡ false
       go Buy q ih = ih
       go Sell q ih = above o.price (best Sell (line_of os)) lt q ih
 
-  buys : b.high_bid < p → (os : List Resting) → all (row_bounded b) os ≡ true → meet (best Buy (line_of os)) (Some p) ≡ false
+  buys : b.high_bid < p → (os : List Resting) → all (row_bounded (Some b)) os ≡ true → meet (best Buy (line_of os)) (Some p) ≡ false
   buys lt [] h = refl
   buys lt (o ∷ os) h =
-      let d = and_yes (row_bounded b o) (all (row_bounded b) os) h in
+      let d = and_yes (row_bounded (Some b) o) (all (row_bounded (Some b)) os) h in
       go (side_of o.kind) d.0 (buys lt os d.1)
     where
-      go : (s : L3Side) → bounded b s o.price ≡ true → meet (best Buy (line_of os)) (Some p) ≡ false
+      go : (s : L3Side) → bounded (Some b) s o.price ≡ true → meet (best Buy (line_of os)) (Some p) ≡ false
           → meet (cond (same_side s Buy) (better Buy o.price (best Buy (line_of os))) (best Buy (line_of os))) (Some p) ≡ false
       go Sell q ih = ih
       go Buy q ih = below o.price (best Buy (line_of os)) lt q ih
 
-pub clear_apart : (b : Bounds) (s : L3Side) (p : ℕ) (os : List Resting) → all (row_bounded b) os ≡ true → clear_of b s p ≡ true → would_cross s p (line_of os) ≡ false
-unfolding clear_of
-clear_apart b Buy p os h q =
-    let d = and_yes b.known (ltb p b.low_ask) q in
-    sells b p d.0 (ltb-true p b.low_ask d.1) os h
-clear_apart b Sell p os h q =
-    let d = and_yes b.known (ltb b.high_bid p) q in
-    buys b p d.0 (ltb-true b.high_bid p d.1) os h
+pub clear_apart : (b : Option Bounds) (s : L3Side) (p : ℕ) (os : List Resting) → all (row_bounded b) os ≡ true → clears b s p ≡ true → would_cross s p (line_of os) ≡ false
+unfolding clears clear_of
+clear_apart None s p os h q = absurd_bool (sym q)
+clear_apart (Some b) Buy p os h q = sells b p (ltb-true p b.low_ask q) os h
+clear_apart (Some b) Sell p os h q = buys b p (ltb-true b.high_bid p q) os h

@@ -6,30 +6,19 @@ ghost use Rattle.std.specs.Prelude.{◌≡◌, ◌≤◌, ◌<◌};
 ghost use Rattle.book.specs.Line.{would_cross};
 ghost use Rattle.book.specs.Rows.{Lent, rows_of, line_of, find_row};
 ghost use Rattle.book_buckets.specs.Buckets.{bucket_of};
-ghost use Rattle.book_index.specs.Index.{key_for, Indexed, no_bounds, widened, clear_of, Near};
+ghost use Rattle.book_index.specs.Index.{key_for, Indexed, widened, clear_of, clears, Near};
 
 use book_row_keys::Key;
 use message::{L3Side, OrderId};
 
-// No buy is above `high_bid`, no sell below `low_ask`, where they are known.
+// No buy is above `high_bid`, no sell below `low_ask`.
 #[derive(Clone, Copy)]
 pub struct Bounds {
-    pub known: bool,
     pub high_bid: u64,
     pub low_ask: u64,
 }
 
 impl Bounds {
-    pub fn none() -> Self
-        ensures { result ≡ no_bounds }
-    {
-        Self {
-            known: false,
-            high_bid: 0,
-            low_ask: 0,
-        }
-    }
-
     // Wide enough for one order more.
     pub fn widened(self, side: L3Side, price: u64) -> Self
         ensures { result ≡ widened self side price }
@@ -51,8 +40,8 @@ impl Bounds {
         ensures { result ≡ clear_of self side price }
     {
         match side {
-            L3Side::Buy => self.known & (price < self.low_ask),
-            L3Side::Sell => self.known & (self.high_bid < price),
+            L3Side::Buy => price < self.low_ask,
+            L3Side::Sell => self.high_bid < price,
         }
     }
 }
@@ -82,7 +71,13 @@ fn find_near(rows: &[u64], k: usize, id: OrderId) -> Option<usize>
 }
 
 // The row with the id: looked for from its place in the index down, and where that misses it, from the first row on.
-pub fn find(rows: &[u64], n: usize, places: &[u16], bounds: Bounds, id: OrderId) -> Option<usize>
+pub fn find(
+    rows: &[u64],
+    n: usize,
+    places: &[u16],
+    bounds: Option<Bounds>,
+    id: OrderId,
+) -> Option<usize>
     requires { Lent rows.now n × Indexed places.now bounds (rows_of rows.now n) }
     ensures { result ≡ find_row (rows_of rows.now n) id 0 }
 {
@@ -100,19 +95,27 @@ pub fn find(rows: &[u64], n: usize, places: &[u16], bounds: Bounds, id: OrderId)
     Some(i)
 }
 
+// Whether bounds are known, and tell that an open does not cross.
+#[tactic(auto, unfolding(crate::specs::Index::clears))]
+fn clears(bounds: Option<Bounds>, side: L3Side, price: u64) -> bool
+    ensures { result ≡ clears bounds side price }
+{
+    bounds.is_some_and(|known| known.clear_of(side, price))
+}
+
 // Whether an order at that side and price would cross the best of the other side.
 pub fn would_cross(
     rows: &[u64],
     n: usize,
     places: &[u16],
-    bounds: Bounds,
+    bounds: Option<Bounds>,
     side: L3Side,
     price: u64,
 ) -> bool
     requires { Lent rows.now n × Indexed places.now bounds (rows_of rows.now n) }
     ensures { result ≡ would_cross side price (line_of (rows_of rows.now n)) }
 {
-    if bounds.clear_of(side, price) {
+    if clears(bounds, side, price) {
         return false;
     }
     book_prices::would_cross(rows, n, side, price)

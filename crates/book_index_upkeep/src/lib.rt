@@ -41,10 +41,9 @@ pub fn mark_rows(rows: &[u64], n: usize, places: &mut [u16])
 // The bounds of the first `n` rows.
 pub fn bounds_of(rows: &[u64], n: usize) -> Bounds
     requires { Lent rows.now n }
-    ensures { all (row_bounded result) (rows_of rows.now n) ≡ true }
+    ensures { all (row_bounded (Some result)) (rows_of rows.now n) ≡ true }
 {
     let mut bounds = Bounds {
-        known: true,
         high_bid: 0,
         low_ask: u64::MAX,
     };
@@ -56,25 +55,29 @@ pub fn bounds_of(rows: &[u64], n: usize) -> Bounds
 }
 
 // The bounds to go by for an open at that side and price: found anew where those at hand do not tell, since orders that have left widened them.
-fn bounds_for(rows: &[u64], n: usize, bounds: Bounds, side: L3Side, price: u64) -> Bounds
+fn bounds_for(rows: &[u64], n: usize, bounds: Option<Bounds>, side: L3Side, price: u64) -> Bounds
     requires { Lent rows.now n × (all (row_bounded bounds) (rows_of rows.now n) ≡ true) }
-    ensures { (all (row_bounded result) (rows_of rows.now n) ≡ true) × (bounded result side price ≡ true) }
+    ensures { (all (row_bounded (Some result)) (rows_of rows.now n) ≡ true) × (bounded (Some result) side price ≡ true) }
 {
-    if bounds.clear_of(side, price) {
-        return bounds.widened(side, price);
+    let Some(known) = bounds else {
+        return bounds_of(rows, n).widened(side, price);
+    };
+    if known.clear_of(side, price) {
+        return known.widened(side, price);
     }
     bounds_of(rows, n).widened(side, price)
 }
 
 // The bounds to go by for an event, wide enough for the order that it may add.
-pub fn foresee(rows: &[u64], n: usize, bounds: Bounds, event: L3Event) -> Bounds
+pub fn foresee(rows: &[u64], n: usize, bounds: Option<Bounds>, event: L3Event) -> Option<Bounds>
     requires { Lent rows.now n × (all (row_bounded bounds) (rows_of rows.now n) ≡ true) }
     ensures { (all (row_bounded result) (rows_of rows.now n) ≡ true) × Foreseen result event }
 {
     match event {
         L3Event::Received { .. } => bounds,
         L3Event::Open { side, price, .. } => {
-            bounds_for(rows, n, bounds, side, message::amount::size_of(price))
+            let wide = bounds_for(rows, n, bounds, side, message::amount::size_of(price));
+            Some(wide)
         }
         L3Event::Done { .. } => bounds,
         L3Event::Match { .. } => bounds,

@@ -110,10 +110,7 @@ pub fn put_day(text: &mut [u8], day: Day) -> usize
     ensures writes { Writes text.old 0 (listed day) text.new result }
     ensures short { result ≤ listing_bytes }
 {
-    let book = day.book;
-    let segments = day.segments;
-    let counts = book.counts;
-    let stop = day.stop;
-    let at = put_segments(text, segments, book.segments);
-    put_ending(text, at, counts, stop)
+    let counts = day.book.counts;
+    let at = put_segments(text, day.segments, day.book.segments);
+    put_ending(text, at, counts, day.stop)
 }

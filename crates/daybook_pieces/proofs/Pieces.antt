@@ -169,7 +169,7 @@ module _ (b : BookReconstructor) (ws vs : List ℕ) (g : Segment) (m : L3Message
   pub message-played : by_apply_to (worked w (memory vs)) ≡ by_apply_to (applied_to ceiling b (memory ws) day_segments g m)
   message-played = ap by_apply_to done
 
-  pub message-plays : (qs : List ℕ) (bounds : Bounds) → Indexed qs bounds (orders_of (memory vs) w.book.rows) → Plays w.book vs qs bounds
+  pub message-plays : (qs : List ℕ) (bounds : Option Bounds) → Indexed qs bounds (orders_of (memory vs) w.book.rows) → Plays w.book vs qs bounds
   message-plays qs bounds i =
       record { usable = subst (λ (x : Worked). Usable ceiling x.book x.memory day_segments) (sym done) (usable-kept ceiling b (memory ws) day_segments u g m); index = i }
 
@@ -208,10 +208,10 @@ module _ (b : BookReconstructor) (ws vs : List ℕ) (g : Segment) (bytes : List 
       go (Some a) h l = ap (λ (x : BookReconstructor). orders_of (memory ws) x.rows) (counts_alone a b)
       go None h l = absurd (omega (arith, l, list-room b (memory ws) g bytes u s h))
 
-  pub after-marks : (ps : List ℕ) (bounds : Bounds) → Indexed ps bounds (orders_of (memory ws) b.rows) → ltb w.at day_segments ≡ false → Marks ps bounds (orders_of (memory vs) w.book.rows)
+  pub after-marks : (ps : List ℕ) (bounds : Option Bounds) → Indexed ps bounds (orders_of (memory ws) b.rows) → ltb w.at day_segments ≡ false → Marks ps bounds (orders_of (memory vs) w.book.rows)
   after-marks ps bounds i h = rw (untaken (ltb-false w.at day_segments h)) (i.marks, i.within)
 
-  pub snapshot-plays : (qs : List ℕ) (bounds : Bounds) → length qs ≤ 65536 → Marks qs bounds (orders_of (memory vs) w.book.rows) → Plays w.book vs qs bounds
+  pub snapshot-plays : (qs : List ℕ) (bounds : Option Bounds) → length qs ≤ 65536 → Marks qs bounds (orders_of (memory vs) w.book.rows) → Plays w.book vs qs bounds
   snapshot-plays qs bounds few m =
       record { usable = after-usable; index = record { few = few; marks = m.0; within = m.1; single = (sound w.book (memory vs) after-usable.sound).formed.single } }
 

@@ -1,6 +1,6 @@
 -- A piece as the code meets it: with the last segment's record by value, in a state that passes 1, 2 and 3, beside an index of its rows. Nothing here is for a
 -- reader to believe: the promise of a day speaks of `played`.
-use Rattle.std.specs.Prelude.{ℕ, ◌≡◌, true, cond, List, Result, Ok, Err}
+use Rattle.std.specs.Prelude.{ℕ, ◌≡◌, true, cond, List, Result, Ok, Err, Option}
 use Rattle.piece.specs.Piece.{piece_number, read_message}
 use Rattle.book.specs.declared.Resting.{Resting}
 use Rattle.book.specs.Memory.{Memory, memory, orders_of}
@@ -34,7 +34,7 @@ abbrev pub turned : Turn → Memory → PlayedTo
 turned t mem = record { number = t.number; book = t.book; memory = mem; segment = t.segment; at = t.at; started = t.started }
 
 -- one that starts no record
-abbrev pub unstarted_turn : ℕ → BookReconstructor → Segment → Bounds → Turn
+abbrev pub unstarted_turn : ℕ → BookReconstructor → Segment → Option Bounds → Turn
 unstarted_turn k b g bounds = record { number = k; book = b; segment = g; at = day_segments; started = no_segment; bounds = bounds }
 
 abbrev pub unstarted : ℕ → BookReconstructor → Memory → Segment → PlayedTo
@@ -55,10 +55,10 @@ unfoldable pub played_to : BookReconstructor → Memory → Segment → List ℕ
 played_to b mem g bytes = cond (is_snapshot bytes) (by_bootstrap_to (bootstrapped_to ceiling b mem day_segments g bytes)) (play_message_to (read_message bytes) b mem g)
 
 -- what of an index is about its places and bounds
-abbrev pub Marks : List ℕ → Bounds → List Resting → Type 0
+abbrev pub Marks : List ℕ → Option Bounds → List Resting → Type 0
 Marks places bounds os = (all (row_marked places) os ≡ true) × (all (row_bounded bounds) os ≡ true)
 
 -- a state that passes 1, 2 and 3, and an index of its rows
-pub record Plays (b : BookReconstructor) (ws places : List ℕ) (bounds : Bounds) : Type 0 where
+pub record Plays (b : BookReconstructor) (ws places : List ℕ) (bounds : Option Bounds) : Type 0 where
   pub usable : Usable ceiling b (memory ws) day_segments
   pub index : Indexed places bounds (orders_of (memory ws) b.rows)

@@ -34,11 +34,11 @@ pub struct Turn {
     pub at: usize,
     pub started: Segment,
     // Of the rows.
-    pub bounds: Bounds,
+    pub bounds: Option<Bounds>,
 }
 
 // One that starts no record.
-fn unstarted(number: u64, book: BookReconstructor, segment: Segment, bounds: Bounds) -> Turn
+fn unstarted(number: u64, book: BookReconstructor, segment: Segment, bounds: Option<Bounds>) -> Turn
     ensures { result ≡ unstarted_turn number book segment bounds }
 {
     let started = Segment::none();
@@ -58,7 +58,13 @@ fn clear(places: &mut [u16]) {
 }
 
 // The index of the first `n` rows: made anew where a snapshot was taken, else the one that there is.
-fn index_after(rows: &[u64], n: usize, places: &mut [u16], bounds: Bounds, taken: bool) -> Bounds
+fn index_after(
+    rows: &[u64],
+    n: usize,
+    places: &mut [u16],
+    bounds: Option<Bounds>,
+    taken: bool,
+) -> Option<Bounds>
     requires lent { Lent rows.now n × (length places.old ≤ 65536) }
     requires marks { taken ≡ false → Marks places.old bounds (rows_of rows.now n) }
     ensures { Marks places.new result (rows_of rows.now n) }
@@ -68,7 +74,7 @@ fn index_after(rows: &[u64], n: usize, places: &mut [u16], bounds: Bounds, taken
     }
     clear(places);
     mark_rows(rows, n, places);
-    bounds_of(rows, n)
+    Some(bounds_of(rows, n))
 }
 
 // A piece that is to be a snapshot.
@@ -76,7 +82,7 @@ fn play_snapshot(
     book: BookReconstructor,
     rows: &mut [u64],
     places: &mut [u16],
-    bounds: Bounds,
+    bounds: Option<Bounds>,
     last: Segment,
     bytes: &[u8],
 ) -> Turn
@@ -89,15 +95,13 @@ fn play_snapshot(
         Ok(snapshot) => {
             let work = bootstrap_usable(book, rows, DAY_SEGMENTS, last, bytes, snapshot);
             let next = work.book;
-            let segment = work.segment;
-            let started = work.started;
             let bounds = index_after(rows, next.rows, places, bounds, work.at < DAY_SEGMENTS);
             Turn {
                 number: snapshot_number(work.answer),
                 book: next,
-                segment,
+                segment: work.segment,
                 at: work.at,
-                started,
+                started: work.started,
                 bounds,
             }
         }
@@ -109,7 +113,7 @@ fn play_message(
     book: BookReconstructor,
     rows: &mut [u64],
     places: &mut [u16],
-    bounds: Bounds,
+    bounds: Option<Bounds>,
     last: Segment,
     bytes: &[u8],
 ) -> Turn
@@ -121,12 +125,10 @@ fn play_message(
         Err(error) => unstarted(error.number(), book, last, bounds),
         Ok(message) => {
             let run = apply_in_run(book, rows, last, places, bounds, message);
-            let work = run.work;
-            let answer = work.answer;
-            let after = work.book;
-            let segment = work.segment;
-            let bounds = run.bounds;
-            unstarted(answer_number(answer), after, segment, bounds)
+            let answer = run.work.answer;
+            let after = run.work.book;
+            let segment = run.work.segment;
+            unstarted(answer_number(answer), after, segment, run.bounds)
         }
     }
 }
@@ -145,7 +147,7 @@ pub fn play(
     book: BookReconstructor,
     rows: &mut [u64],
     places: &mut [u16],
-    bounds: Bounds,
+    bounds: Option<Bounds>,
     last: Segment,
     bytes: &[u8],
 ) -> Turn

@@ -58,7 +58,7 @@ pub record After (s : DayBook) (bytes : List ℕ) (t : Turn) (vs : List ℕ) (sg
   pub full : length sg ≡ day_segments
   pub none : t.book.segments ≡ 0 → g ≡ no_segment
 
-module _ (b : BookReconstructor) (ws vs ps bytes : List ℕ) (bounds : Bounds) (sg sg' : List Segment) (g g' : Segment) (t : Turn) (plays : Plays b ws ps bounds) (whole : length sg ≡ day_segments) (unset : b.segments ≡ 0 → g ≡ no_segment)
+module _ (b : BookReconstructor) (ws vs ps bytes : List ℕ) (bounds : Option Bounds) (sg sg' : List Segment) (g g' : Segment) (t : Turn) (plays : Plays b ws ps bounds) (whole : length sg ≡ day_segments) (unset : b.segments ≡ 0 → g ≡ no_segment)
     (e : turned t (memory vs) ≡ played_to b (memory ws) g bytes) where
   abbrev n : ℕ
   n = b.segments
@@ -108,11 +108,11 @@ module _ (b : BookReconstructor) (ws vs ps bytes : List ℕ) (bounds : Bounds) (
 -- ---- the loop
 
 -- the list has room for all that a usable state counts
-pub listed_few : (b : BookReconstructor) (ws ps : List ℕ) (bounds : Bounds) → Plays b ws ps bounds → b.segments ≤ day_segments
+pub listed_few : (b : BookReconstructor) (ws ps : List ℕ) (bounds : Option Bounds) → Plays b ws ps bounds → b.segments ≤ day_segments
 listed_few b ws ps bounds p = segments-lent b (memory ws) day_segments p.usable.lent
 
 -- what it keeps, before piece i, counted from 0
-pub record Loops (f ws₀ ps₀ ws ps : List ℕ) (b : BookReconstructor) (bounds : Bounds) (g : Segment) (sg : List Segment) (i : ℕ) : Type 0 where
+pub record Loops (f ws₀ ps₀ ws ps : List ℕ) (b : BookReconstructor) (bounds : Option Bounds) (g : Segment) (sg : List Segment) (i : ℕ) : Type 0 where
   pub few : i ≤ piece_count f
   pub plays : Plays b ws ps bounds
   pub full : length sg ≡ day_segments
@@ -132,7 +132,7 @@ fresh-usable product =
     }
 
 -- and no row is to be indexed
-fresh-plays : (product : ProductId) (ps : List ℕ) (bounds : Bounds) → length ps ≤ 65536 → Plays (fresh_day product).book fresh_rows ps bounds
+fresh-plays : (product : ProductId) (ps : List ℕ) (bounds : Option Bounds) → length ps ≤ 65536 → Plays (fresh_day product).book fresh_rows ps bounds
 unfolding rows_from
 fresh-plays product ps bounds small = record { usable = fresh-usable product; index = record { few = small; marks = refl; within = refl; single = refl } }
 
@@ -140,7 +140,7 @@ pub length_none : length no_segments ≡ day_segments
 unfolding no_segments
 length_none = length-replicate day_segments no_segment
 
-pub loop-start : (f ps : List ℕ) (bounds : Bounds) (b : BookReconstructor) → length ps ≤ 65536 → b ≡ (fresh_day (product_of (pieces_of f))).book
+pub loop-start : (f ps : List ℕ) (bounds : Option Bounds) (b : BookReconstructor) → length ps ≤ 65536 → b ≡ (fresh_day (product_of (pieces_of f))).book
     → Loops f fresh_rows ps fresh_rows ps b bounds no_segment no_segments 0
 unfolding day_of pieces_of
 loop-start f ps bounds b small e =
@@ -160,7 +160,7 @@ ended-with : (b : BookReconstructor) (ws : List ℕ) (sg : List Segment) (g : Se
 ended-with b ws sg g stop full =
     ap (λ (l : List Segment). record { book = b; segments = l; stop = stop }) (set_out (relast sg b.segments g) day_segments no_segment (omega (arith, length-relast sg b.segments g)))
 
-module _ (f ws₀ ps₀ ws ps : List ℕ) (b : BookReconstructor) (bounds : Bounds) (g : Segment) (sg : List Segment) (i : ℕ) (l : Loops f ws₀ ps₀ ws ps b bounds g sg i) where
+module _ (f ws₀ ps₀ ws ps : List ℕ) (b : BookReconstructor) (bounds : Option Bounds) (g : Segment) (sg : List Segment) (i : ℕ) (l : Loops f ws₀ ps₀ ws ps b bounds g sg i) where
   -- with no piece left the day is over
   pub loop-ends : piece_count f ≤ i → ended_with b sg g None ≡ day_of f
   unfolding replayed

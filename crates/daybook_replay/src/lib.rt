@@ -59,7 +59,7 @@ fn replay_pieces(file: &[u8], rows: &mut [u64], places: &mut [u16]) -> Day
     let count = piece_count(file);
     let rules = VenueRules::with_limits(DAY_LIMIT, DAY_LIMIT);
     let mut book = BookReconstructor::new(first_product(file), rules, 0);
-    let mut bounds = bounds_of(rows, 0);
+    let mut bounds = Some(bounds_of(rows, 0));
     let mut last = Segment::none();
     let mut segments = no_segments();
     for i in 0..count {
@@ -67,11 +67,9 @@ fn replay_pieces(file: &[u8], rows: &mut [u64], places: &mut [u16]) -> Day
         let end = piece_end(file, i);
         let turn = play(book, rows, places, bounds, last, &file[start..end]);
         if turn.at < DAY_SEGMENTS {
-            let segment = turn.segment;
-            let started = turn.started;
-            let kept = filed(segments, book.segments, segment, turn.at, started);
+            let kept = filed(segments, book.segments, turn.segment, turn.at, turn.started);
             segments = kept;
-            last = started;
+            last = turn.started;
         } else {
             last = turn.segment;
         }

@@ -1,4 +1,4 @@
-// A volume ahead as words; the layout is beside the answers' enums (crate `queue`, specs/Numbers.antt).
+// A volume ahead as words; the layout is beside the answers' numbers (crate `queue`, specs/Numbers.antt).
 #![tactic(auto)]
 
 ghost use Rattle.std.specs.Prelude.{◌≡◌};

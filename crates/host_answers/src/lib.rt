@@ -1,4 +1,4 @@
-// How a told answer becomes a number and words: specs/Answers.antt says what is written where, and the layouts are beside the answers' enums.
+// How a told answer becomes a number and words: specs/Answers.antt says what is written where, and the layouts are beside the answers' numbers.
 #![tactic(auto)]
 
 ghost use Rattle.std.specs.Prelude.{◌≡◌};

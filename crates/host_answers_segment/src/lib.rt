@@ -15,8 +15,7 @@ pub fn store_invalidation(out: &mut [u64], answer: Option<Invalidation>) -> u64
 {
     match answer {
         Some(why) => {
-            let kind = why.kind;
-            let words = kind_words(kind);
+            let words = kind_words(why.kind);
             give(
                 out,
                 &[

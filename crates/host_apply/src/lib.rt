@@ -26,7 +26,6 @@ pub fn apply(state: &mut [u64], rows: &mut [u64], segments: &mut [u64], message:
     let last = last_record(segments, count);
     let work = reconstructor_apply::apply_by_value(book, rows, lent, last, load_message(message));
     rewrite_record(segments, count, work.segment);
-    let answer = work.answer;
-    store_book(state, work.book, sets_status(answer));
-    answer_number(answer)
+    store_book(state, work.book, sets_status(work.answer));
+    answer_number(work.answer)
 }

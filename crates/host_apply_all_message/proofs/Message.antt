@@ -1,5 +1,6 @@
 -- A message of a run is a call of `pinuglaw_apply`, and the state and the index go on.
 -- Assumes nothing.
+use Rattle.std.specs.Prelude.{Option}
 use Prim.Native.Nat.{ℕ, ◌≤◌}
 use mathlib.Core.Path.{◌≡◌, sym, subst, ap, ◌∙◌}
 use mathlib.Core.Bool.{true, false}
@@ -36,7 +37,7 @@ use Rattle.host_calls.proofs.Blocks.{less, applied-state}
 use Rattle.host_apply_all_message.specs.Runs.{Runs}
 
 -- what the loop carries, of the state as it was loaded
-module _ (st ws sg ps : List ℕ) (bd : Bounds) (b : BookReconstructor) (e : b ≡ book_of st) where
+module _ (st ws sg ps : List ℕ) (bd : Option Bounds) (b : BookReconstructor) (e : b ≡ book_of st) where
   pub loaded : Runs st ws sg ps bd → Trusted most_rows b (memory ws) × Indexed ps bd (orders_of (memory ws) b.rows)
   loaded r = rw e (trusted_under ceiling (book_of st) (memory ws) (records_in sg) (omega arith) r.usable, r.index)
 
@@ -68,7 +69,7 @@ module _ (st ws sg m : List ℕ) (w : Work) (ut vs tg : List ℕ) (g : Segment) 
   work : worked w (memory vs) ≡ applied_to ceiling (book_of st) (memory ws) (records_in sg) g (message_of m)
   work = e ∙ sym (applied-trusted_to ceiling (book_of st) (memory ws) (records_in sg) g (message_of m) u)
 
-  pub runs_on : (qs : List ℕ) (bd : Bounds) → length ut ≡ length st → length tg ≡ length sg → Indexed qs bd (orders_of (memory vs) w.book.rows) → Runs ut vs tg qs bd
+  pub runs_on : (qs : List ℕ) (bd : Option Bounds) → length ut ≡ length st → length tg ≡ length sg → Indexed qs bd (orders_of (memory vs) w.book.rows) → Runs ut vs tg qs bd
   runs_on qs bd long same index =
       let now : book_of ut ≡ w.book =
       ap book_of eu ∙ subst (λ (p : Parts). book_of (after_apply st sg p).state ≡ p.book) (sym done) (applied-state st ws sg (message_of m) whole ceiling) in

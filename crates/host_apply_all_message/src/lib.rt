@@ -21,7 +21,7 @@ use reconstructor_apply_run::apply_in_run;
 #[derive(Clone, Copy)]
 pub struct RunApplied {
     pub number: u64,
-    pub bounds: Bounds,
+    pub bounds: Option<Bounds>,
 }
 
 // The next message of the run, whose words are those of one.
@@ -30,7 +30,7 @@ fn apply_message(
     rows: &mut [u64],
     segments: &mut [u64],
     places: &mut [u16],
-    bounds: Bounds,
+    bounds: Option<Bounds>,
     message: &[u64],
 ) -> RunApplied
     requires runs_2 { Runs state.old rows.old segments.old places.old bounds }
@@ -44,14 +44,12 @@ fn apply_message(
     let count = book.segments;
     let last = last_record(segments, count);
     let run = apply_in_run(book, rows, last, places, bounds, message);
-    let work = run.work;
-    rewrite_record(segments, count, work.segment);
-    let answer = work.answer;
-    store_book(state, work.book, sets_status(answer));
-    let bounds = run.bounds;
+    rewrite_record(segments, count, run.work.segment);
+    let answer = run.work.answer;
+    store_book(state, run.work.book, sets_status(answer));
     RunApplied {
         number: answer_number(answer),
-        bounds,
+        bounds: run.bounds,
     }
 }
 
@@ -61,7 +59,7 @@ pub fn apply_next(
     rows: &mut [u64],
     segments: &mut [u64],
     places: &mut [u16],
-    bounds: Bounds,
+    bounds: Option<Bounds>,
     message: &[u64],
 ) -> RunApplied
     requires runs_2 { Runs state.old rows.old segments.old places.old bounds }

@@ -1,5 +1,6 @@
 -- A run, message by message: each is a call of `pinuglaw_apply`, and its number goes to its own word.
 -- Assumes nothing.
+use Rattle.std.specs.Prelude.{Option}
 use Prim.Native.Nat.{ℕ, suc, ◌+◌, ◌*◌, ◌-◌, ◌≤◌, ◌<◌}
 use mathlib.Core.Path.{◌≡◌, refl, sym, ap, ◌∙◌}
 use mathlib.Core.Bool.{true, false}
@@ -24,7 +25,7 @@ use Rattle.host_apply_all_message.specs.Runs.{Runs}
 use Rattle.host_apply_all_run.specs.Run.{Run, then, run, ApplyAllCall, apply_all_called, count_of, after_run}
 
 -- what the loop starts with, of the state as it was loaded
-module _ (st ws sg ps : List ℕ) (bd : Bounds) (b : BookReconstructor) (e : b ≡ book_of st) where
+module _ (st ws sg ps : List ℕ) (bd : Option Bounds) (b : BookReconstructor) (e : b ≡ book_of st) where
   pub runs-start : state_words ≤ length st → no_book st ≡ false → Usable ceiling (book_of st) (memory ws) (records_in sg) → length ps ≤ 65536 → all (row_marked ps) (orders_of (memory ws) b.rows) ≡ true
       → all (row_bounded bd) (orders_of (memory ws) b.rows) ≡ true → Runs st ws sg ps bd
   runs-start whole is u few marks within =
@@ -75,7 +76,7 @@ pub message-at : (ms : List ℕ) (i : ℕ) → take (length ms - 21 * i) (drop (
 message-at ms i = take_all (length ms - 21 * i) (drop (21 * i) ms) (omega (arith, length-drop (21 * i) ms))
 
 -- what holds after i messages
-pub record Looped (st₀ ws₀ sg₀ ms out₀ ps₀ st ws sg out ps : List ℕ) (b : Bounds) (i : ℕ) : Type 0 where
+pub record Looped (st₀ ws₀ sg₀ ms out₀ ps₀ st ws sg out ps : List ℕ) (b : Option Bounds) (i : ℕ) : Type 0 where
   pub few : i ≤ count_of ms
   pub runs : Runs st ws sg ps b
   pub state : length st ≡ length st₀
@@ -85,7 +86,7 @@ pub record Looped (st₀ ws₀ sg₀ ms out₀ ps₀ st ws sg out ps : List ℕ)
   pub places : length ps ≡ length ps₀
   pub rest : after_run out₀ (run (count_of ms) st₀ ws₀ sg₀ ms) ≡ left i out (run (count_of ms - i) st ws sg (drop (21 * i) ms))
 
-pub loop-start : (st ws sg ms out ps : List ℕ) (b : Bounds) → Runs st ws sg ps b → Looped st ws sg ms out ps st ws sg out ps b 0
+pub loop-start : (st ws sg ms out ps : List ℕ) (b : Option Bounds) → Runs st ws sg ps b → Looped st ws sg ms out ps st ws sg out ps b 0
 loop-start st ws sg ms out ps b r =
     let z : count_of ms - 0 ≡ count_of ms = omega arith in
     let d : drop (21 * 0) ms ≡ ms = refl in
@@ -100,8 +101,8 @@ loop-start st ws sg ms out ps b r =
       rest = rw (z, d) (left-first out (run (count_of ms) st ws sg ms));
     }
 
-module _ (st₀ ws₀ sg₀ ms out₀ ps₀ st ws sg out ps : List ℕ) (b : Bounds) (i : ℕ) (l : Looped st₀ ws₀ sg₀ ms out₀ ps₀ st ws sg out ps b i) where
-  pub loop-next : (k : ℕ) (ut vs tg qs : List ℕ) (b' : Bounds) → called k ut vs tg ≡ apply_call st ws sg (take (length ms - 21 * i) (drop (21 * i) ms))
+module _ (st₀ ws₀ sg₀ ms out₀ ps₀ st ws sg out ps : List ℕ) (b : Option Bounds) (i : ℕ) (l : Looped st₀ ws₀ sg₀ ms out₀ ps₀ st ws sg out ps b i) where
+  pub loop-next : (k : ℕ) (ut vs tg qs : List ℕ) (b' : Option Bounds) → called k ut vs tg ≡ apply_call st ws sg (take (length ms - 21 * i) (drop (21 * i) ms))
       → Runs ut vs tg qs b' → length ut ≡ length st → length vs ≡ length ws → length tg ≡ length sg → length qs ≡ length ps → i < count_of ms
       → count_of ms ≤ length out₀ → Looped st₀ ws₀ sg₀ ms out₀ ps₀ ut vs tg (set out i k) qs b' (i + 1)
   loop-next k ut vs tg qs b' e r ht hs hg hp h q =

@@ -24,7 +24,7 @@ fn apply_all_from(
     messages: &[u64],
     answers: &mut [u64],
     places: &mut [u16],
-    first: Bounds,
+    first: Option<Bounds>,
 )
     requires runs { Runs state.old rows.old segments.old places.old first }
     requires messages_in_bounds { count_of messages.now ≤ length answers.old }
@@ -55,7 +55,7 @@ fn apply_all_in(
 {
     let n = load_book(state).rows;
     book_index_upkeep::mark_rows(rows, n, places);
-    let bounds = book_index_upkeep::bounds_of(rows, n);
+    let bounds = Some(book_index_upkeep::bounds_of(rows, n));
     apply_all_from(state, rows, segments, messages, answers, places, bounds)
 }
 

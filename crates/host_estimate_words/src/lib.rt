@@ -1,4 +1,4 @@
-// An estimate from words and as words; the layout is beside the answers' enums (crate `queue`, specs/Numbers.antt).
+// An estimate from words and as words; the layout is beside the answers' numbers (crate `queue`, specs/Numbers.antt).
 #![tactic(auto)]
 
 ghost use Rattle.std.specs.Prelude.{◌≡◌, [], ◌∷◌, ◌≤◌, length};
@@ -84,19 +84,16 @@ fn anchor_words(anchor: Anchor) -> AnchorWords
 fn give_estimate(out: &mut [u64], estimate: QueueEstimate) -> u64
     ensures { answered result out.new ≡ given (estimate_values estimate) out.old }
 {
-    let side = estimate.side;
-    let segment = estimate.segment;
-    let anchor = estimate.anchor;
-    let first = side_word(side);
+    let first = side_word(estimate.side);
     let price = bits(estimate.price);
-    let last = anchor_words(anchor);
+    let last = anchor_words(estimate.anchor);
     give(
         out,
         &[
             first,
             price,
-            segment.number,
-            segment.place as u64,
+            estimate.segment.number,
+            estimate.segment.place as u64,
             last.kind,
             last.first,
             last.second,

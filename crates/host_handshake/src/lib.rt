@@ -37,14 +37,13 @@ pub fn store_handshake(words: &mut [u64], handshake: Handshake)
     requires { handshake_words ≤ length words.old }
     ensures { words.new ≡ handshake_left words.old handshake }
 {
-    let segment = handshake.segment;
     let ended = ended_word(handshake.ended);
     put(
         words,
         0,
         &[
-            segment.number,
-            segment.place as u64,
+            handshake.segment.number,
+            handshake.segment.place as u64,
             ended,
             handshake.applied,
         ],

@@ -19,20 +19,19 @@ pub fn read_message(bytes: &[u8], out: &mut [u64]) -> u64
             if out.len() < MESSAGE_WORDS {
                 return 7;
             }
-            let event = m.event;
             let product = m.product_id;
             put(
                 out,
                 0,
                 &[
-                    kind_word(event),
+                    kind_word(m.event),
                     product.high,
                     product.low,
                     m.sequence,
                     m.time_us,
                 ],
             );
-            put(out, 5, &event_words(event));
+            put(out, 5, &event_words(m.event));
             0
         }
         Err(e) => e.number(),

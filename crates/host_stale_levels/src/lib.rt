@@ -24,8 +24,7 @@ fn unwritten_stale(book: BookReconstructor, rows: &[u64], short: bool) -> u64
     match reconstructor_view::read_checks(VenueRules::CEILING, book, rows, short) {
         Err(why) => why.number(),
         Ok(()) => {
-            let status = book.status;
-            match status {
+            match book.status {
                 Status::Empty => 256,
                 Status::Valid { .. } => 256,
                 Status::Invalidated(_) => 7,

@@ -33,8 +33,7 @@ pub fn step(
     let hands = load_handshake(handshake);
     let work = hands.step_by_value(book, rows, lent, last, load_message(message));
     rewrite_record(segments, count, work.segment);
-    let answer = work.answer;
-    store_book(state, work.book, step_sets_status(answer));
+    store_book(state, work.book, step_sets_status(work.answer));
     store_handshake(handshake, work.handshake);
-    answer.number()
+    work.answer.number()
 }

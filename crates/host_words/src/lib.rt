@@ -236,12 +236,11 @@ pub fn status_words(status: Status) -> StatusWords
             kind: none,
         },
         Status::Invalidated(i) => {
-            let kind = i.kind;
             StatusWords {
                 status: 2,
                 last: i.last_good_seq,
                 offending: i.first_offending_seq,
-                kind: kind_words(kind),
+                kind: kind_words(i.kind),
             }
         }
     }

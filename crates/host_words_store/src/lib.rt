@@ -18,7 +18,6 @@ fn store_status(words: &mut [u64], status: Status, sets: bool)
         return;
     }
     let w = status_words(status);
-    let kind = w.kind;
     put(
         words,
         6,
@@ -26,10 +25,10 @@ fn store_status(words: &mut [u64], status: Status, sets: bool)
             w.status,
             w.last,
             w.offending,
-            kind.number,
-            kind.first,
-            kind.second,
-            kind.detail,
+            w.kind.number,
+            w.kind.first,
+            w.kind.second,
+            w.kind.detail,
         ],
     );
 }
@@ -39,25 +38,24 @@ fn store_rest(words: &mut [u64], book: BookReconstructor)
     requires { state_words ≤ length words.old }
     ensures { words.new ≡ take 13 words.old ++ rest_list book ++ drop state_words words.old }
 {
-    let counts = book.counts;
     put(
         words,
         13,
         &[
             book.rows as u64,
             book.segments as u64,
-            counts.received,
-            counts.open,
-            counts.done,
-            counts.matched,
-            counts.stp_decrease,
-            counts.off_book_done,
-            counts.off_book_change,
-            counts.noop_change,
-            counts.handshake_dropped,
-            counts.skipped_while_invalid,
-            counts.wrong_product,
-            counts.rejected_snapshots,
+            book.counts.received,
+            book.counts.open,
+            book.counts.done,
+            book.counts.matched,
+            book.counts.stp_decrease,
+            book.counts.off_book_done,
+            book.counts.off_book_change,
+            book.counts.noop_change,
+            book.counts.handshake_dropped,
+            book.counts.skipped_while_invalid,
+            book.counts.wrong_product,
+            book.counts.rejected_snapshots,
         ],
     );
 }
@@ -67,8 +65,7 @@ pub fn store_book(words: &mut [u64], book: BookReconstructor, sets: bool)
     requires { state_words ≤ length words.old }
     ensures { words.new ≡ restored words.old sets book }
 {
-    let status = book.status;
-    store_status(words, status, sets);
+    store_status(words, book.status, sets);
     store_rest(words, book);
 }
 

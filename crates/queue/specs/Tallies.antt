@@ -30,8 +30,3 @@ pub record Small (t : Tally) : Type 0 where
   pub from_snapshot : t.from_snapshot ≤ most_rows * amount_limit
   pub observed : t.observed ≤ most_rows * amount_limit
   pub orders : t.orders ≤ most_rows
-
--- the row that rests, or none
-abbrev pub RestsFor : Option Resting → Option Resting → Type 0
-RestsFor r (Some o) = r ≡ Some o
-RestsFor r None = r ≡ None

@@ -68,7 +68,7 @@ pub struct QueueAhead {
 }
 
 // Sums over orders ahead, and whether one decreased after the estimate.
-#[derive(Clone, Copy)]
+#[derive(Clone, Copy, Default)]
 pub struct Tally {
     pub volume: u64,
     pub from_snapshot: u64,

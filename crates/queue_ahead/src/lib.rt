@@ -73,8 +73,7 @@ fn ahead_of_list(
     requires orders_in_bounds { (ahead_entry_words * orders ≤ length ahead.now) × (orders ≤ list_bound) }
     ensures { result ≡ list_ahead book.rules.size_decrease last_seq orders created_at ahead.now (orders_of (memory rows.now) book.rows) }
 {
-    let rules = book.rules;
-    let rule = rules.size_decrease;
+    let rule = book.rules.size_decrease;
     let t = tally_list(rows, book.rows, ahead, orders, created_at);
     tallied(
         rule,
@@ -98,8 +97,7 @@ fn ahead_of_own(
     requires { Lent rows.now book.rows × (some_row_broken (orders_of (memory rows.now) book.rows) ≡ false) }
     ensures { result ≡ own_ahead book.rules.size_decrease last_seq side price own entered_at (orders_of (memory rows.now) book.rows) }
 {
-    let rules = book.rules;
-    let rule = rules.size_decrease;
+    let rule = book.rules.size_decrease;
     let n = book.rows;
     let Some(o) = resting_since(rows, n, own, entered_at) else {
         return Err(QueueError::NotResting);
@@ -121,8 +119,7 @@ fn ahead_of_own(
 fn is_stale(book: BookReconstructor, estimate: QueueEstimate) -> bool
     ensures { result ≡ not (same_segment estimate.segment (segment_of book)) }
 {
-    let segment = estimate.segment;
-    !reconstructor_segments::same_segment(segment, book.segment_name())
+    !reconstructor_segments::same_segment(estimate.segment, book.segment_name())
 }
 
 // The volume ahead of an estimate's order, once 8 and 50 are out.
@@ -137,17 +134,23 @@ fn anchor_ahead(
     requires ahead_value { list_short estimate.anchor (length ahead.now) ≡ false }
     ensures { result ≡ anchor_ahead book.rules.size_decrease last_seq estimate estimate.anchor ahead.now (orders_of (memory rows.now) book.rows) }
 {
-    let side = estimate.side;
     let at = message::amount::size_of(estimate.price);
-    let anchor = estimate.anchor;
-    match anchor {
+    match estimate.anchor {
         Anchor::Hypothetical { orders, created_at } => {
             ahead_of_list(book, rows, ahead, orders, created_at, last_seq)
         }
         Anchor::Own {
             order_id,
             entered_at,
-        } => ahead_of_own(book, rows, side, at, order_id, entered_at, last_seq),
+        } => ahead_of_own(
+            book,
+            rows,
+            estimate.side,
+            at,
+            order_id,
+            entered_at,
+            last_seq,
+        ),
     }
 }
 
@@ -176,8 +179,7 @@ pub fn volume_ahead_under(
     ensures { result ≡ volume_ahead top book (memory rows.now) estimate ahead.now }
 {
     let last_seq = reconstructor_view::valid_book(top, book, rows, false)?;
-    let anchor = estimate.anchor;
-    if list_short(anchor, ahead.len()) {
+    if list_short(estimate.anchor, ahead.len()) {
         return Err(QueueError::AheadListShort);
     }
     if is_stale(book, estimate) {

@@ -52,8 +52,7 @@ pub fn queue_estimate_own_under(
     requires { top ≤ most_rows }
     ensures { result ≡ queue_estimate_own top book (memory rows.now) order_id }
 {
-    let rules = book.rules;
-    let rule = rules.size_decrease;
+    let rule = book.rules.size_decrease;
     let _last_seq = reconstructor_view::valid_book(top, book, rows, false)?;
     let Some(order) = resting(rows, book.rows, order_id) else {
         return Err(QueueError::NotResting);

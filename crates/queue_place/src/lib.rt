@@ -5,7 +5,6 @@ ghost use Rattle.std.specs.Prelude.{◌≡◌};
 ghost use Rattle.book.specs.Rows.{Lent};
 ghost use Rattle.book.specs.Memory.{memory, orders_of};
 ghost use Rattle.queue.specs.Ahead.{row_with, entered_at as Ahead·entered_at};
-ghost use Rattle.queue.specs.Tallies.{RestsFor};
 ghost use Rattle.queue.specs.Estimates.{loses_place, place_unknown};
 
 use book::Resting;
@@ -32,7 +31,7 @@ pub fn place_unknown(rule: SizeDecrease, o: Resting) -> bool
 // The row of an id.
 pub fn resting(rows: &[u64], n: usize, id: OrderId) -> Option<Resting>
     requires { Lent rows.now n }
-    ensures { RestsFor (row_with id (orders_of (memory rows.now) n)) result }
+    ensures { result ≡ row_with id (orders_of (memory rows.now) n) }
 {
     match book_search::find(rows, n, id) {
         Some(i) => Some(book::get_row(rows, i)),
@@ -43,16 +42,7 @@ pub fn resting(rows: &[u64], n: usize, id: OrderId) -> Option<Resting>
 // The row of an id, if it entered there: an id that is used again names another order.
 pub fn resting_since(rows: &[u64], n: usize, id: OrderId, entered_at: u64) -> Option<Resting>
     requires { Lent rows.now n }
-    ensures { RestsFor (Ahead·entered_at entered_at (row_with id (orders_of (memory rows.now) n))) result }
+    ensures { result ≡ Ahead·entered_at entered_at (row_with id (orders_of (memory rows.now) n)) }
 {
-    match resting(rows, n, id) {
-        Some(o) => {
-            if o.entered_at == entered_at {
-                Some(o)
-            } else {
-                None
-            }
-        }
-        None => None,
-    }
+    resting(rows, n, id).filter(|o| o.entered_at == entered_at)
 }

@@ -41,13 +41,7 @@ fn decreased_after(since: u64, o: Resting) -> bool
 fn no_tally() -> Tally
     ensures { result ≡ no_tally }
 {
-    Tally {
-        volume: 0,
-        from_snapshot: 0,
-        observed: 0,
-        orders: 0,
-        decreased: false,
-    }
+    Tally::default()
 }
 
 // A tally with one order more.

@@ -188,7 +188,7 @@ module _ (f : Resting → Bool) (b : BookReconstructor) (mem : Memory) (m : L3Me
   applied_all top lent g = answered_all g (book_gate top b mem lent g m)
 
 -- one that foresaw the message, once that is noted, is an index of the orders that the message leaves
-pub indexed-kept : (top : ℕ) (b : BookReconstructor) (mem : Memory) (lent : ℕ) (g : Segment) (m : L3Message) (places : List ℕ) (bounds : Bounds) (n : ℕ) → Usable top b mem lent
+pub indexed-kept : (top : ℕ) (b : BookReconstructor) (mem : Memory) (lent : ℕ) (g : Segment) (m : L3Message) (places : List ℕ) (bounds : Option Bounds) (n : ℕ) → Usable top b mem lent
     → Indexed places bounds (orders_of mem b.rows) → Foreseen bounds m.event → length (noted places n m.event) ≡ length places
     → Indexed (noted places n m.event) bounds (orders_left (applied_to top b mem lent g m))
 indexed-kept top b mem lent g m places bounds n u i w l =

@@ -23,9 +23,10 @@ fn segment_of(work: Work) -> Segment
 fn reply_of(work: Work) -> Reply
     ensures { result ≡ reply_of work }
 {
-    let book = work.book;
-    let answer = work.answer;
-    Reply { book, answer }
+    Reply {
+        book: work.book,
+        answer: work.answer,
+    }
 }
 
 // Applies the next message to a book. Nothing but the counts that 01 names changes unless every check passes; a refusal rewrites the last segment's record with

@@ -17,11 +17,9 @@ use reconstructor_state::{BookReconstructor, Status};
 pub fn work_of(reply: Reply, segment: Segment) -> Work
     ensures { result ≡ record { book = reply.book; answer = reply.answer; segment = segment } }
 {
-    let book = reply.book;
-    let answer = reply.answer;
     Work {
-        book,
-        answer,
+        book: reply.book,
+        answer: reply.answer,
         segment,
     }
 }
@@ -53,8 +51,7 @@ pub fn refused(book: BookReconstructor, error: ApplyError) -> Reply
 pub fn admit(book: BookReconstructor, message: L3Message) -> Result<u64, ApplyError>
     ensures { AdmitsFor (admit_refusal book.product_id book.status message) (last_of book.status) result }
 {
-    let event = message.event;
-    if !message_range::event_in_range(event) {
+    if !message_range::event_in_range(message.event) {
         return Err(ApplyError::AmountOutOfRange);
     }
     let expected = book.product_id;
@@ -62,8 +59,7 @@ pub fn admit(book: BookReconstructor, message: L3Message) -> Result<u64, ApplyEr
     if !message::same_product(got, expected) {
         return Err(ApplyError::WrongProduct);
     }
-    let status = book.status;
-    match status {
+    match book.status {
         Status::Empty => Err(ApplyError::NotBootstrapped),
         Status::Valid { last_seq } => Ok(last_seq),
         Status::Invalidated(invalidation) => { Err(ApplyError::AwaitingSnapshot(invalidation)) }

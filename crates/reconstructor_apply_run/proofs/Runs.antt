@@ -1,5 +1,6 @@
 -- An index that foresaw a message is, once that is noted, one of the rows that the message leaves.
 -- Assumes nothing.
+use Rattle.std.specs.Prelude.{Option}
 use Prim.Native.Nat.{ℕ}
 use mathlib.Core.Path.{◌≡◌, sym, subst, ◌∙◌}
 use mathlib.Core.Bool.{true}
@@ -24,14 +25,14 @@ use Rattle.reconstructor.proofs.ByValue.{applied-trusted_to}
 use Rattle.reconstructor.proofs.Kept.{indexed-kept}
 
 -- other bounds of the same orders
-pub foreseen : (ps : List ℕ) (bd nd : Bounds) (os : List Resting) → Indexed ps bd os → all (row_bounded nd) os ≡ true → Indexed ps nd os
+pub foreseen : (ps : List ℕ) (bd nd : Option Bounds) (os : List Resting) → Indexed ps bd os → all (row_bounded nd) os ≡ true → Indexed ps nd os
 foreseen ps bd nd os i h = record { few = i.few; marks = i.marks; within = h; single = i.single }
 
 -- a state that is trusted, with a list of just its records
 lent_its_own : (b : BookReconstructor) (mem : Memory) → Trusted most_rows b mem → Usable most_rows b mem b.segments
 lent_its_own b mem t = record { within = t.within; lent = or_both _ _ t.room (le-ltb b.segments b.segments (omega arith)); sound = t.sound }
 
-pub noted_indexed : (b : BookReconstructor) (ws vs ps qs : List ℕ) (g : Segment) (m : L3Message) (bd : Bounds) (w : Work) → Trusted most_rows b (memory ws) → Indexed ps bd (orders_of (memory ws) b.rows)
+pub noted_indexed : (b : BookReconstructor) (ws vs ps qs : List ℕ) (g : Segment) (m : L3Message) (bd : Option Bounds) (w : Work) → Trusted most_rows b (memory ws) → Indexed ps bd (orders_of (memory ws) b.rows)
     → Foreseen bd m.event → worked w (memory vs) ≡ trusted_to b (memory ws) g m → qs ≡ noted ps b.rows m.event → length qs ≡ length ps → Indexed qs bd (orders_of (memory vs) w.book.rows)
 noted_indexed b ws vs ps qs g m bd w t i f e en few =
     let u : Usable most_rows b (memory ws) b.segments = lent_its_own b (memory ws) t in

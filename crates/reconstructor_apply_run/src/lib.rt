@@ -21,7 +21,7 @@ use reconstructor_state::BookReconstructor;
 #[derive(Clone, Copy)]
 pub struct RunWork {
     pub work: Work,
-    pub bounds: Bounds,
+    pub bounds: Option<Bounds>,
 }
 
 // The bounds are made wide enough for an order that the message may add, and that order is marked.
@@ -30,7 +30,7 @@ pub fn apply_in_run(
     rows: &mut [u64],
     last: Segment,
     places: &mut [u16],
-    bounds: Bounds,
+    bounds: Option<Bounds>,
     message: L3Message,
 ) -> RunWork
     requires trusted { Trusted most_rows book (memory rows.old) }
@@ -38,10 +38,9 @@ pub fn apply_in_run(
     ensures applies { worked result.work (memory rows.new) ≡ trusted_to book (memory rows.old) last message }
     ensures indexes { Indexed places.new result.bounds (orders_of (memory rows.new) result.work.book.rows) }
 {
-    let event = message.event;
     let n = book.rows;
-    let next = foresee(rows, n, bounds, event);
+    let next = foresee(rows, n, bounds, message.event);
     let work = apply_indexed(book, rows, last, places, next, message);
-    note(places, n, event);
+    note(places, n, message.event);
     RunWork { work, bounds: next }
 }

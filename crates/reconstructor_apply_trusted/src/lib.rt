@@ -25,7 +25,7 @@ pub fn apply_indexed(
     rows: &mut [u64],
     last: Segment,
     places: &[u16],
-    bounds: Bounds,
+    bounds: Option<Bounds>,
     message: L3Message,
 ) -> Work
     requires ready { Ready rows.old book.rows book.rules.max_orders }
@@ -36,8 +36,7 @@ pub fn apply_indexed(
         Err(error) => work_of(refused(book, error), last),
         Ok(last_seq) => {
             let reply = apply_valid(book, rows, places, bounds, last_seq, message);
-            let answer = reply.answer;
-            let segment = next_segment(last, answer, message.sequence, message.time_us);
+            let segment = next_segment(last, reply.answer, message.sequence, message.time_us);
             work_of(reply, segment)
         }
     }
@@ -54,5 +53,5 @@ pub fn apply_trusted(
     ensures { worked result (memory rows.new) ≡ trusted_to book (memory rows.old) last message }
 {
     let places = [0u16; 0];
-    apply_indexed(book, rows, last, &places, Bounds::none(), message)
+    apply_indexed(book, rows, last, &places, None, message)
 }

@@ -35,9 +35,10 @@ fn started_of(work: Work) -> Segment
 fn reply_of(work: Work) -> Reply
     ensures { result ≡ reply_of work }
 {
-    let book = work.book;
-    let answer = work.answer;
-    Reply { book, answer }
+    Reply {
+        book: work.book,
+        answer: work.answer,
+    }
 }
 
 // Takes the snapshot piece for the book, or says by which number it is turned away. A refused snapshot leaves the book, the rows and the segment

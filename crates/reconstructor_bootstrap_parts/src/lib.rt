@@ -55,16 +55,13 @@ pub fn booted_book(book: BookReconstructor, sequence: u64, n: usize) -> BookReco
     requires { book.segments < largest }
     ensures { result ≡ booted_book book sequence n }
 {
-    let product_id = book.product_id;
-    let rules = book.rules;
-    let counts = book.counts;
     BookReconstructor {
-        product_id,
-        rules,
+        product_id: book.product_id,
+        rules: book.rules,
         number: book.number,
         status: Status::Valid { last_seq: sequence },
         rows: n,
         segments: book.segments + 1,
-        counts,
+        counts: book.counts,
     }
 }

@@ -30,10 +30,9 @@ fn accept(
     ensures { booted result (memory rows.new) ≡ accepted book (memory rows.old) last snapshot.sequence (snapshot_line snapshot bytes.now) }
 {
     let n = snapshot.bids + snapshot.asks;
-    let status = book.status;
     let next = booted_book(book, snapshot.sequence, n);
     store_rows(rows, book.rows, bytes, snapshot.bids, n, snapshot.sequence);
-    let segment = close_last(status, last);
+    let segment = close_last(book.status, last);
     let started = Segment::started(snapshot.sequence);
     Work {
         book: next,
@@ -60,8 +59,7 @@ pub fn bootstrap_usable(
         return refused(book, BootstrapError::ListFull, lent, last);
     }
     let product = book.product_id;
-    let rules = book.rules;
-    match validate_snapshot(product, rules, bytes, snapshot) {
+    match validate_snapshot(product, book.rules, bytes, snapshot) {
         Ok(()) => accept(book, rows, last, bytes, snapshot),
         Err(error) => refused(book, BootstrapError::Rejected(error), lent, last),
     }

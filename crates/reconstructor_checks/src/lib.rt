@@ -40,16 +40,14 @@ pub fn broken(book: BookReconstructor, rows: &[u64]) -> bool
     requires { (memory_short book.rules (extent_of (memory rows.now)) ≡ false) × (book.rules.max_orders ≤ most_rows) }
     ensures { result ≡ broken book (memory rows.now) }
 {
-    let rules = book.rules;
     let n = book.rows;
-    if n > rules.max_orders {
+    if n > book.rules.max_orders {
         return true;
     }
-    if book_valid::rows_broken(rows, n, rules.max_levels) {
+    if book_valid::rows_broken(rows, n, book.rules.max_levels) {
         return true;
     }
-    let status = book.status;
-    unsettled(status, n, book.segments)
+    unsettled(book.status, n, book.segments)
 }
 
 // 1, 2 and 3 of a call under a ceiling, which is lent rows and a segment list of `lent` records.
@@ -62,11 +60,10 @@ pub fn own_checks(
     requires { top ≤ most_rows }
     ensures { result ≡ checked (book_refusal top book (memory rows.now) lent) }
 {
-    let rules = book.rules;
-    if over_ceiling(top, rules) {
+    if over_ceiling(top, book.rules) {
         return Err(StateError::LimitAboveCeiling);
     }
-    if memory_short(rules, rows) | (lent < book.segments) {
+    if memory_short(book.rules, rows) | (lent < book.segments) {
         return Err(StateError::LentTooShort);
     }
     if broken(book, rows) {

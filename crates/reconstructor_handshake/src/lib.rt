@@ -60,13 +60,10 @@ fn segment_of(work: StepWork) -> Segment
 fn reply_of(work: StepWork) -> StepReply
     ensures { result ≡ step_reply_of work }
 {
-    let handshake = work.handshake;
-    let book = work.book;
-    let answer = work.answer;
     StepReply {
-        handshake,
-        book,
-        answer,
+        handshake: work.handshake,
+        book: work.book,
+        answer: work.answer,
     }
 }
 
@@ -99,8 +96,7 @@ impl Handshake {
     fn is_other(self, book: BookReconstructor) -> bool
         ensures { result ≡ other_segment self (segment_of book) book.segments }
     {
-        let segment = self.segment;
-        let same = reconstructor_segments::same_segment(segment, book.segment_name());
+        let same = reconstructor_segments::same_segment(self.segment, book.segment_name());
         self.ended | ((book.segments == 0) | !same)
     }
 
@@ -120,16 +116,13 @@ impl Handshake {
     fn decided(mut self, work: Work) -> StepWork
         ensures { result ≡ decided_of self work }
     {
-        let book = work.book;
-        let answer = work.answer;
-        let segment = work.segment;
-        self.ended = self.ended | ends(answer);
-        self.applied = applied_by(self.applied, answer);
+        self.ended = self.ended | ends(work.answer);
+        self.applied = applied_by(self.applied, work.answer);
         StepWork {
             handshake: self,
-            book,
-            answer: StepAnswer::Stepped(answer),
-            segment,
+            book: work.book,
+            answer: StepAnswer::Stepped(work.answer),
+            segment: work.segment,
         }
     }
 
@@ -167,8 +160,7 @@ impl Handshake {
         if self.is_other(book) {
             return self.unchanged(book, last, StepAnswer::OtherSegment);
         }
-        let event = message.event;
-        if !message_range::event_in_range(event) {
+        if !message_range::event_in_range(message.event) {
             let answer = StepAnswer::Stepped(Err(ApplyError::AmountOutOfRange));
             return self.unchanged(book, last, answer);
         }

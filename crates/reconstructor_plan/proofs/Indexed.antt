@@ -79,7 +79,7 @@ event-marked places n v os seq e h = event_all (row_marked (noted places n e)) (
     joins (Unsupported k) = tt
 
 -- within bounds that foresaw the event
-pub event-bounded : (b : Bounds) (v : VenueRules) (os : List Resting) (seq : ℕ) (e : L3Event) → Foreseen b e → all (row_bounded b) os ≡ true → all (row_bounded b) (orders_by (effect v (line_of os) seq e) os) ≡ true
+pub event-bounded : (b : Option Bounds) (v : VenueRules) (os : List Resting) (seq : ℕ) (e : L3Event) → Foreseen b e → all (row_bounded b) os ≡ true → all (row_bounded b) (orders_by (effect v (line_of os) seq e) os) ≡ true
 event-bounded b v os seq e w h = event_all (row_bounded b) (bounded-same b) v os h seq e (joins e w)
   where
     joins : (e : L3Event) → Foreseen b e → Joins (row_bounded b) (bounded-same b) v os h seq e

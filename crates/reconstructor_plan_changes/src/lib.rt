@@ -27,13 +27,10 @@ fn is_modify(reason: ChangeReason) -> bool
 fn change_differs(order: Resting, side: L3Side, fields: ChangeFields) -> bool
     ensures { result ≡ change_differs (entry_of order) side fields.price fields.old_size fields.old_price }
 {
-    let price = fields.price;
-    let old_size = fields.old_size;
-    let old_price = fields.old_price;
     !message::same_side(book::side_of(order.kind), side)
-        | (message::amount::given_differs(price, order.price)
-            | (message::amount::given_differs(old_size, order.remaining)
-                | message::amount::given_differs(old_price, order.price)))
+        | (message::amount::given_differs(fields.price, order.price)
+            | (message::amount::given_differs(fields.old_size, order.remaining)
+                | message::amount::given_differs(fields.old_price, order.price)))
 }
 
 fn reason_of(new_funds: Option<i64>) -> MalformedReason
@@ -49,7 +46,7 @@ pub fn plan_change(
     rows: &[u64],
     n: usize,
     places: &[u16],
-    bounds: Bounds,
+    bounds: Option<Bounds>,
     seq: u64,
     order_id: OrderId,
     side: L3Side,
@@ -71,14 +68,11 @@ pub fn plan_change(
     if change_differs(order, side, fields) {
         return Err(Discrepancy::ChangeMismatch);
     }
-    let new_price = fields.new_price;
-    if message::amount::given_differs(new_price, order.price) {
+    if message::amount::given_differs(fields.new_price, order.price) {
         return Err(Discrepancy::UnsupportedModification);
     }
-    let new_size = fields.new_size;
-    let Some(size) = new_size else {
-        let new_funds = fields.new_funds;
-        return Err(Discrepancy::MalformedChange(reason_of(new_funds)));
+    let Some(size) = fields.new_size else {
+        return Err(Discrepancy::MalformedChange(reason_of(fields.new_funds)));
     };
     if message::amount::is_negative(size) {
         return Err(Discrepancy::InvalidValue);

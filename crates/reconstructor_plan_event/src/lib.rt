@@ -21,7 +21,7 @@ pub fn plan_event(
     rows: &[u64],
     n: usize,
     places: &[u16],
-    bounds: Bounds,
+    bounds: Option<Bounds>,
     seq: u64,
     event: L3Event,
 ) -> Result<Plan, Discrepancy>

@@ -26,7 +26,7 @@ pub fn plan_match(
     rows: &[u64],
     n: usize,
     places: &[u16],
-    bounds: Bounds,
+    bounds: Option<Bounds>,
     maker_id: OrderId,
     taker_id: OrderId,
     side: L3Side,

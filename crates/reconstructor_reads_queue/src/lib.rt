@@ -39,8 +39,7 @@ pub fn level_queue_under(
     requires { top ≤ most_rows }
     ensures { leaves result scratch.new out.new ≡ level_queue top book (memory rows.now) scratch.old side price out.old }
 {
-    let rules = book.rules;
-    let most = rules.max_orders;
+    let most = book.rules.max_orders;
     let at = message::amount::size_of(price);
     let _ = reconstructor_view::valid_book(top, book, rows, scratch.len() < most)?;
     let count = show_queue(rows, book.rows, scratch, most, side, at, out)?;

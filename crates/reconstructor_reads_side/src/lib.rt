@@ -23,8 +23,7 @@ pub fn level_read(
     requires { (top ≤ most_rows) × ((l2_words ≤ width) × (width ≤ profile_words)) }
     ensures { leaves result scratch.new out.new ≡ read_of top book (memory rows.now) scratch.old (levels_content width side (orders_of (memory rows.now) book.rows)) out.old }
 {
-    let rules = book.rules;
-    let most = rules.max_orders;
+    let most = book.rules.max_orders;
     let _ = reconstructor_view::valid_book(top, book, rows, scratch.len() < most)?;
     let count = show_levels(rows, book.rows, scratch, most, side, width, out)?;
     Ok(count)

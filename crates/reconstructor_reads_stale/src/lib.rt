@@ -37,11 +37,9 @@ pub fn stale_l2_under(
     requires { top ≤ most_rows }
     ensures { leaves_stale result scratch.new out.new ≡ stale_l2 top book (memory rows.now) scratch.old side out.old }
 {
-    let rules = book.rules;
-    let most = rules.max_orders;
+    let most = book.rules.max_orders;
     reconstructor_view::read_checks(top, book, rows, scratch.len() < most)?;
-    let status = book.status;
-    match status {
+    match book.status {
         Status::Empty => Ok(None),
         Status::Valid { .. } => Ok(None),
         Status::Invalidated(_) => {

@@ -53,7 +53,7 @@ pub fn apply_valid(
     book: BookReconstructor,
     rows: &mut [u64],
     places: &[u16],
-    bounds: Bounds,
+    bounds: Option<Bounds>,
     last_seq: u64,
     message: L3Message,
 ) -> Reply

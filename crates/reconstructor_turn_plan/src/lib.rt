@@ -20,7 +20,7 @@ pub fn take_turn(
     book: BookReconstructor,
     rows: &[u64],
     places: &[u16],
-    bounds: Bounds,
+    bounds: Option<Bounds>,
     last_seq: u64,
     message: L3Message,
 ) -> Result<Plan, InvalidationKind>
@@ -42,9 +42,15 @@ pub fn take_turn(
     if seq > expected {
         return Err(InvalidationKind::Gap { expected, got: seq });
     }
-    let rules = book.rules;
-    let event = message.event;
-    match reconstructor_plan_event::plan_event(rules, rows, book.rows, places, bounds, seq, event) {
+    match reconstructor_plan_event::plan_event(
+        book.rules,
+        rows,
+        book.rows,
+        places,
+        bounds,
+        seq,
+        message.event,
+    ) {
         Ok(plan) => Ok(plan),
         Err(d) => Err(InvalidationKind::Discrepancy(d)),
     }

@@ -74,11 +74,10 @@ pub fn read_checks(
     requires { top ≤ most_rows }
     ensures { result ≡ checked (read_refusal_of top book (memory rows.now) short) }
 {
-    let rules = book.rules;
-    if reconstructor_checks::over_ceiling(top, rules) {
+    if reconstructor_checks::over_ceiling(top, book.rules) {
         return Err(StateError::LimitAboveCeiling);
     }
-    if reconstructor_checks::memory_short(rules, rows) | short {
+    if reconstructor_checks::memory_short(book.rules, rows) | short {
         return Err(StateError::LentTooShort);
     }
     if reconstructor_checks::broken(book, rows) {
@@ -110,10 +109,7 @@ pub fn valid_book(
 {
     match read_checks(top, book, rows, short) {
         Err(why) => Err(ViewError::Unusable(why)),
-        Ok(()) => {
-            let status = book.status;
-            valid_status(status)
-        }
+        Ok(()) => { valid_status(book.status) }
     }
 }
 
@@ -122,8 +118,7 @@ pub fn invalidation(book: BookReconstructor) -> Option<Invalidation>
     ensures value { result ≡ invalidation_of book.status }
     ensures told { invalidation_told result ≡ invalidation_told (invalidation_of book.status) }
 {
-    let status = book.status;
-    match status {
+    match book.status {
         Status::Empty => None,
         Status::Valid { .. } => None,
         Status::Invalidated(invalidation) => Some(invalidation),

@@ -1,4 +1,5 @@
 -- From the last row to the first: bounds widened for a row hold for it, and go on to hold for the rows behind it, since widening never narrows.
+use Rattle.std.specs.Prelude.{Some}
 use Prim.Native.Nat.{◌-◌}
 use mathlib.Core.Path.{◌≡◌}
 use mathlib.Core.Bool.{true}
@@ -7,4 +8,4 @@ use Rattle.book_index.specs.Index.{all, row_bounded}
 use Rattle.book_index_upkeep.proofs.bounds_of.Given as goal
 
 abbrev pub invariant-loop-i : goal.invariant-loop-i
-invariant-loop-i l = all (row_bounded l.bounds) (rows_from l.rows l.i (l.n - l.i)) ≡ true
+invariant-loop-i l = all (row_bounded (Some l.bounds)) (rows_from l.rows l.i (l.n - l.i)) ≡ true

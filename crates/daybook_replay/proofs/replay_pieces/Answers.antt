@@ -1,5 +1,6 @@
 -- The loop keeps that what the file comes to is the replay of the pieces left, from piece `i` on, on the book as it is now, its last record apart from the list
 -- (`Loops`). A turn plays one piece (`after`) and files the record that it starts (`Keeps`); it stops the day (`loop-stops`) or goes on (`loop-next`).
+use Rattle.std.specs.Prelude.{Some}
 use native.Mathlib.Omega.{arith}
 use mathlib.Core.Path.{sym, ◌∙◌}
 use Rattle.daybook_file.proofs.Days.{pairs-inside, piece_inside, piece_cut}
@@ -14,13 +15,13 @@ piece_count-count-requires c = c.requires.file_value
 pub first_product-requires : goal.first_product-requires
 first_product-requires c = c.requires.file_value
 
-pub bounds_of-bounds-requires : goal.bounds_of-bounds-requires
-bounds_of-bounds-requires c = record { room = omega arith; few = omega arith }
+pub bounds_of-requires : goal.bounds_of-requires
+bounds_of-requires c = record { room = omega arith; few = omega arith }
 
 pub loop-i-init : goal.loop-i-init
 loop-i-init c =
     let a = c.args in
-    rw (c.requires.rows_value.0, c.no_segments-segments.ensures, c.none-last.ensures) (loop-start a.file.now a.places.now c.bounds_of-bounds.result c.new-book.result c.requires.rows_value.1 (c.new-book.ensures ∙ rw (c.with_limits-rules.ensures, c.first_product.ensures)))
+    rw (c.requires.rows_value.0, c.no_segments-segments.ensures, c.none-last.ensures) (loop-start a.file.now a.places.now (Some c.bounds_of.result) c.new-book.result c.requires.rows_value.1 (c.new-book.ensures ∙ rw (c.with_limits-rules.ensures, c.first_product.ensures)))
 
 pub piece_start-start-requires : goal.piece_start-start-requires
 piece_start-start-requires c = omega (arith, pairs-inside c.args.file.now c.requires.file_value, c.loop-i-test.true, c.piece_count-count.ensures)

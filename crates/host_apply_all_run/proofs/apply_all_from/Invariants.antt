@@ -1,7 +1,5 @@
 -- The loop keeps what the whole run comes to: the answers written, then the run of the messages left on the words as they are now. A turn moves one call
 -- from that run to the answers, since `apply_next` is `apply_call` and leaves an index for the next; with no message left the words are the result.
-use Prim.Native.Nat.{◌-◌}
-use Rattle.host_apply_all_run.specs.Run.{count_of}
 use Rattle.host_apply_all_run.proofs.Runs.{Looped}
 use Rattle.host_apply_all_run.proofs.apply_all_from.Given as goal
 

@@ -14,8 +14,8 @@ mark_rows-requires c =
     let b = c.load_book-n in
     (rows-ready ceiling b.result (memory a.rows.now) (omega arith) (trusted ceiling b.result (memory a.rows.now) (records_in a.segments.now) (rw b.ensures c.requires.ready.usable)), c.requires.places_len_bound)
 
-pub bounds_of-bounds-requires : goal.bounds_of-bounds-requires
-bounds_of-bounds-requires c =
+pub bounds_of-requires : goal.bounds_of-requires
+bounds_of-requires c =
     let a = c.args in
     let b = c.load_book-n in
     rows-ready ceiling b.result (memory a.rows.now) (omega arith) (trusted ceiling b.result (memory a.rows.now) (records_in a.segments.now) (rw b.ensures c.requires.ready.usable))
@@ -25,4 +25,4 @@ apply_all_from-requires c =
     let a = c.args in
     let b = c.load_book-n in
     let k = c.mark_rows in
-    record { runs = runs-start a.state.now a.rows.now a.segments.now _ _ b.result b.ensures c.requires.ready.whole c.requires.ready.book c.requires.ready.usable (omega (arith, k.auto.places, c.requires.places_len_bound)) k.ensures c.bounds_of-bounds.ensures; messages_in_bounds = c.requires.ready.answered }
+    record { runs = runs-start a.state.now a.rows.now a.segments.now _ _ b.result b.ensures c.requires.ready.whole c.requires.ready.book c.requires.ready.usable (omega (arith, k.auto.places, c.requires.places_len_bound)) k.ensures c.bounds_of.ensures; messages_in_bounds = c.requires.ready.answered }

@@ -1,4 +1,5 @@
 -- Where `valid_book` answers a sequence, the rows are lent and sound: the own order is looked up, and its price fits an amount.
+use mathlib.Core.Path.{sym, ◌∙◌}
 use Rattle.std.proofs.lemmas.Result.{err_from_is_err_and}
 use mathlib.Core.Bool.{false}
 use Rattle.book.specs.Memory.{memory, orders_of}
@@ -20,7 +21,7 @@ unfolding own_viewed
 returns-in_default c =
     let a = c.args in
     let v = found-valid a.top a.book (memory a.rows.now) false _ c.valid_book.ensures _ c.in_ok-_last_seq.was in
-    let w = rw c.in_default.is at c.resting.ensures in
+    let w = sym c.resting.ensures ∙ c.in_default.is in
     rw (v.0, w)
 
 pub returns-then-place_unknown : goal.returns-then-place_unknown
@@ -28,7 +29,7 @@ unfolding own_viewed
 returns-then-place_unknown c =
     let a = c.args in
     let v = found-valid a.top a.book (memory a.rows.now) false _ c.valid_book.ensures _ c.in_ok-_last_seq.was in
-    let w = rw c.in-Some.is at c.resting.ensures in
+    let w = sym c.resting.ensures ∙ c.in-Some.is in
     rw (v.0, w, ← c.place_unknown.ensures, c.if-place_unknown.true)
 
 pub own_estimate-requires : goal.own_estimate-requires
@@ -36,7 +37,7 @@ own_estimate-requires c =
     let a = c.args in
     let m = memory a.rows.now in
     let v = found-valid a.top a.book m false _ c.valid_book.ensures _ c.in_ok-_last_seq.was in
-    let w = rw c.in-Some.is at c.resting.ensures in
+    let w = sym c.resting.ensures ∙ c.in-Some.is in
     price_most _ (with-sound a.order_id (orders_of m a.book.rows) _ (sound a.book m v.2.trusted.sound).formed.sound w)
 
 pub returns-in_err-_last_seq : goal.returns-in_err-_last_seq
@@ -51,5 +52,5 @@ unfolding own_viewed
 returns c =
     let a = c.args in
     let v = found-valid a.top a.book (memory a.rows.now) false _ c.valid_book.ensures _ c.in_ok-_last_seq.was in
-    let w = rw c.in-Some.is at c.resting.ensures in
+    let w = sym c.resting.ensures ∙ c.in-Some.is in
     rw (v.0, w, ← c.place_unknown.ensures, c.if-place_unknown.false, c.own_estimate.ensures)

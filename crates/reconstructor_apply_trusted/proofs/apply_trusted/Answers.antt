@@ -8,4 +8,4 @@ use Rattle.reconstructor_apply_trusted.proofs.apply_trusted.Goals as goal
 pub apply_indexed-requires : goal.apply_indexed-requires
 apply_indexed-requires c =
     let a = c.args in
-    record { ready = trusted-ready a.book (memory a.rows.now) c.requires; indexed = rw c.none.ensures (unindexed (rows_of a.rows.now a.book.rows) (sound a.book (memory a.rows.now) c.requires.sound).formed.single) }
+    record { ready = trusted-ready a.book (memory a.rows.now) c.requires; indexed = unindexed (rows_of a.rows.now a.book.rows) (sound a.book (memory a.rows.now) c.requires.sound).formed.single }
