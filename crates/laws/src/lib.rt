@@ -1,4 +1,4 @@
-// Laws of lists, Booleans and numbers that the other crates cite, and what the code does with a block of words of any width: it is put at a place.
+// Laws of lists, Booleans and numbers that the other crates cite, and what the code does with a block of elements of any type: it is put at a place.
 #![tactic(auto)]
 
 ghost use Rattle.std.specs.Prelude.{◌≡◌, ◌++◌, ◌+◌, ◌≤◌, length, take, drop};
