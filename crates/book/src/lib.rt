@@ -1,10 +1,14 @@
-// The book: rows of eight words, and the line of orders they stand for. Only `get_row` and `set_row` touch words.
+// The book: rows of eight words, and the line of orders they stand for.
 #![tactic(auto)]
 
 ghost use Rattle.std.specs.Prelude.{◌≡◌, ◌+◌, ◌*◌, ◌≤◌, length};
 ghost use Rattle.book.specs.Rows.{row_words, most_rows, row_at, set_row, side_of};
 
 use message::L3Side;
+
+mod lent;
+
+pub use lent::{LentRows, SoundRows};
 
 // Words of a row.
 pub const ROW_WORDS: usize = 8;

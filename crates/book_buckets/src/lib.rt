@@ -2,10 +2,12 @@
 #![tactic(auto)]
 
 ghost use Rattle.std.specs.Prelude.{◌≡◌, ◌+◌, ◌≤◌, ◌<◌, ◌/◌, ◌%◌, length};
-ghost use Rattle.book.specs.Rows.{Lent, most_rows, rows_of};
+ghost use Rattle.book.specs.Rows.{most_rows};
+ghost use Rattle.book.specs.Lending.{rows_in};
 ghost use Rattle.book_row_keys.specs.Keys.{key_of, has_key, count_keys};
 ghost use Rattle.book_buckets.specs.Buckets.{spread_of, bucket_of, Chained, Headed, rest_of, Empty};
 
+use book::LentRows;
 use book_row_keys::{Key, KeyKind};
 
 // Sizes of a table: it is cleared at each call, so few rows get a small one. The largest has an entry for every row that a book can have.
@@ -48,22 +50,21 @@ pub fn row_of(x: u16) -> usize
 
 // Whether a row of the chain that starts at `first` has the key. A link is the number of rows from there to the end, 0 for none.
 fn chain_has(
-    rows: &[u64],
-    n: usize,
+    rows: LentRows<'_>,
     kind: KeyKind,
     m: usize,
     next: &[u16],
     first: usize,
     key: Key,
 ) -> bool
-    requires lent { Lent rows.now n × ((first ≤ n) × (first ≤ length next.now)) }
-    requires chained { Chained rows.now n kind m next.now first }
-    requires headed { Headed kind m (bucket_of key m) (rest_of rows.now n first) }
-    ensures { result ≡ has_key (key_of kind) key (rest_of rows.now n first) }
+    requires within { (first ≤ rows.count) × (first ≤ length next.now) }
+    requires chained { Chained rows.words.now rows.count kind m next.now first }
+    requires headed { Headed kind m (bucket_of key m) (rest_of rows.words.now rows.count first) }
+    ensures { result ≡ has_key (key_of kind) key (rest_of rows.entry.words.now rows.entry.count first) }
 {
     let mut j = first;
     while 0 < j {
-        let o = book::get_row(rows, n - j);
+        let o = rows.get(rows.count - j);
         if book_row_keys::key_of(o, kind) == key {
             return true;
         }
@@ -73,20 +74,20 @@ fn chain_has(
 }
 
 // How many distinct keys the rows have. `heads` is all 0. Rows are taken from the last to the first, so that a link leads to later rows.
-fn count_in(rows: &[u64], n: usize, kind: KeyKind, heads: &mut [u16], next: &mut [u16]) -> usize
-    requires lent { Lent rows.now n × ((n ≤ length next.old) × ((0 < length heads.old) × (length heads.old ≤ most_rows))) }
+fn count_in(rows: LentRows<'_>, kind: KeyKind, heads: &mut [u16], next: &mut [u16]) -> usize
+    requires within { (rows.count ≤ length next.old) × ((0 < length heads.old) × (length heads.old ≤ most_rows)) }
     requires empty { Empty heads.old }
-    ensures { result ≡ count_keys (key_of kind) (rows_of rows.now n) }
+    ensures { result ≡ count_keys (key_of kind) (rows_in rows.entry) }
 {
     let m = heads.len();
     let mut count: usize = 0;
-    for k in 0..n {
-        let o = book::get_row(rows, n - (k + 1));
+    for k in 0..rows.count {
+        let o = rows.get(rows.count - (k + 1));
         let key = book_row_keys::key_of(o, kind);
         let b = bucket(key, m);
         let link = heads[b];
         let first = row_of(link);
-        if !chain_has(rows, n, kind, m, next, first, key) {
+        if !chain_has(rows, kind, m, next, first, key) {
             count += 1;
         }
         next[k] = link;
@@ -96,29 +97,28 @@ fn count_in(rows: &[u64], n: usize, kind: KeyKind, heads: &mut [u16], next: &mut
 }
 
 // The same with tables of its own, of `N` entries.
-fn count_sized<const N: usize>(rows: &[u64], n: usize, kind: KeyKind) -> usize
-    requires lent { Lent rows.now n × (n ≤ N) }
+fn count_sized<const N: usize>(rows: LentRows<'_>, kind: KeyKind) -> usize
+    requires room { rows.count ≤ N }
     requires size { (0 < N) × (N ≤ most_rows) }
-    ensures { result ≡ count_keys (key_of kind) (rows_of rows.now n) }
+    ensures { result ≡ count_keys (key_of kind) (rows_in rows.entry) }
 {
     let mut heads = [0u16; N];
     let mut next = [0u16; N];
-    count_in(rows, n, kind, &mut heads, &mut next)
+    count_in(rows, kind, &mut heads, &mut next)
 }
 
-// How many distinct keys `n` rows have.
-pub fn count_keys(rows: &[u64], n: usize, kind: KeyKind) -> usize
-    requires { Lent rows.now n }
-    ensures { result ≡ count_keys (key_of kind) (rows_of rows.now n) }
+// How many distinct keys the rows have, with tables as large as they need.
+pub fn count_keys(rows: LentRows<'_>, kind: KeyKind) -> usize
+    ensures { result ≡ count_keys (key_of kind) (rows_in rows.entry) }
 {
-    if n <= TINY {
-        return count_sized::<TINY>(rows, n, kind);
+    if rows.count <= TINY {
+        return count_sized::<TINY>(rows, kind);
     }
-    if n <= SMALL {
-        return count_sized::<SMALL>(rows, n, kind);
+    if rows.count <= SMALL {
+        return count_sized::<SMALL>(rows, kind);
     }
-    if n <= MEDIUM {
-        return count_sized::<MEDIUM>(rows, n, kind);
+    if rows.count <= MEDIUM {
+        return count_sized::<MEDIUM>(rows, kind);
     }
-    count_sized::<{ book::MOST_ROWS }>(rows, n, kind)
+    count_sized::<{ book::MOST_ROWS }>(rows, kind)
 }

@@ -4,12 +4,18 @@
 
 ghost use Rattle.std.specs.Prelude.{◌≡◌, ◌≤◌, ◌<◌};
 ghost use Rattle.book.specs.Line.{would_cross};
-ghost use Rattle.book.specs.Rows.{Lent, rows_of, line_of, find_row};
+ghost use Rattle.book.specs.Rows.{line_of, find_row};
+ghost use Rattle.book.specs.Lending.{rows_in};
 ghost use Rattle.book_buckets.specs.Buckets.{bucket_of};
-ghost use Rattle.book_index.specs.Index.{key_for, Indexed, widened, clear_of, clears, Near};
+ghost use Rattle.book_index.specs.Index.{key_for, widened, clear_of, clears, Near};
 
+use book::LentRows;
 use book_row_keys::Key;
 use message::{L3Side, OrderId};
+
+mod indexed;
+
+pub use indexed::IndexedRows;
 
 // No buy is above `high_bid`, no sell below `low_ask`.
 #[derive(Clone, Copy)]
@@ -61,36 +67,30 @@ pub fn bucket_of(id: OrderId, m: usize) -> usize
 }
 
 // A row with the id among the last 256 before row `k`.
-fn find_near(rows: &[u64], k: usize, id: OrderId) -> Option<usize>
-    requires { Lent rows.now k }
-    ensures { Near rows.now k id result }
+fn find_near(rows: LentRows<'_>, k: usize, id: OrderId) -> Option<usize>
+    requires { k ≤ rows.count }
+    ensures { Near rows.entry.words.now k id result }
 {
     (k.saturating_sub(256)..k)
         .rev()
-        .find(|&j| book_search::has_id(book::get_row(rows, j), id))
+        .find(|&j| book_search::has_id(rows.get(j), id))
 }
 
 // The row with the id: looked for from its place in the index down, and where that misses it, from the first row on.
-pub fn find(
-    rows: &[u64],
-    n: usize,
-    places: &[u16],
-    bounds: Option<Bounds>,
-    id: OrderId,
-) -> Option<usize>
-    requires { Lent rows.now n × Indexed places.now bounds (rows_of rows.now n) }
-    ensures { result ≡ find_row (rows_of rows.now n) id 0 }
+pub fn find(index: IndexedRows<'_>, id: OrderId) -> Option<usize>
+    ensures { result ≡ find_row (rows_in index.entry.rows) id 0 }
 {
-    let m = places.len();
+    let rows = index.rows;
+    let m = index.places.len();
     if m == 0 {
-        return book_search::find(rows, n, id);
+        return book_search::find(rows, id);
     }
-    let place = book_buckets::row_of(places[bucket_of(id, m)]);
+    let place = book_buckets::row_of(index.places[bucket_of(id, m)]);
     if place == 0 {
         return None;
     }
-    let Some(i) = find_near(rows, place.min(n), id) else {
-        return book_search::find(rows, n, id);
+    let Some(i) = find_near(rows, place.min(rows.count), id) else {
+        return book_search::find(rows, id);
     };
     Some(i)
 }
@@ -104,19 +104,11 @@ fn clears(bounds: Option<Bounds>, side: L3Side, price: u64) -> bool
 }
 
 // Whether an order at that side and price would cross the best of the other side.
-pub fn would_cross(
-    rows: &[u64],
-    n: usize,
-    places: &[u16],
-    bounds: Option<Bounds>,
-    side: L3Side,
-    price: u64,
-) -> bool
-    requires { Lent rows.now n × Indexed places.now bounds (rows_of rows.now n) }
-    ensures { result ≡ would_cross side price (line_of (rows_of rows.now n)) }
+pub fn would_cross(index: IndexedRows<'_>, side: L3Side, price: u64) -> bool
+    ensures { result ≡ would_cross side price (line_of (rows_in index.entry.rows)) }
 {
-    if clears(bounds, side, price) {
+    if clears(index.bounds, side, price) {
         return false;
     }
-    book_prices::would_cross(rows, n, side, price)
+    book_prices::would_cross(index.rows, side, price)
 }

@@ -2,9 +2,11 @@
 #![tactic(auto)]
 
 ghost use Rattle.std.specs.Prelude.{◌≡◌, true, ◌≤◌, length};
-ghost use Rattle.book.specs.Rows.{Lent, most_rows, rows_of};
+ghost use Rattle.book.specs.Rows.{most_rows};
+ghost use Rattle.book.specs.Lending.{rows_in};
 ghost use Rattle.book_index.specs.Index.{bounded, row_marked, row_bounded, all, Foreseen, marked_at, noted};
 
+use book::LentRows;
 use book_index::Bounds;
 use message::{L3Event, L3Side, OrderId};
 
@@ -20,13 +22,13 @@ fn mark(places: &mut [u16], place: usize, id: OrderId)
     }
 }
 
-// Marks the first `n` rows.
-pub fn mark_rows(rows: &[u64], n: usize, places: &mut [u16])
-    requires { Lent rows.now n × (length places.old ≤ 65536) }
-    ensures { all (row_marked places.new) (rows_of rows.now n) ≡ true }
+// Marks the rows.
+pub fn mark_rows(rows: LentRows<'_>, places: &mut [u16])
+    requires { length places.old ≤ 65536 }
+    ensures { all (row_marked places.new) (rows_in rows.entry) ≡ true }
 {
-    for i in 0..n {
-        let o = book::get_row(rows, i);
+    for i in 0..rows.count {
+        let o = rows.get(i);
         mark(
             places,
             i,
@@ -38,45 +40,44 @@ pub fn mark_rows(rows: &[u64], n: usize, places: &mut [u16])
     }
 }
 
-// The bounds of the first `n` rows.
-pub fn bounds_of(rows: &[u64], n: usize) -> Bounds
-    requires { Lent rows.now n }
-    ensures { all (row_bounded (Some result)) (rows_of rows.now n) ≡ true }
+// The bounds of the rows.
+pub fn bounds_of(rows: LentRows<'_>) -> Bounds
+    ensures { all (row_bounded (Some result)) (rows_in rows.entry) ≡ true }
 {
     let mut bounds = Bounds {
         high_bid: 0,
         low_ask: u64::MAX,
     };
-    for i in (0..n).rev() {
-        let o = book::get_row(rows, i);
+    for i in (0..rows.count).rev() {
+        let o = rows.get(i);
         bounds = bounds.widened(book::side_of(o.kind), o.price);
     }
     bounds
 }
 
 // The bounds to go by for an open at that side and price: found anew where those at hand do not tell, since orders that have left widened them.
-fn bounds_for(rows: &[u64], n: usize, bounds: Option<Bounds>, side: L3Side, price: u64) -> Bounds
-    requires { Lent rows.now n × (all (row_bounded bounds) (rows_of rows.now n) ≡ true) }
-    ensures { (all (row_bounded (Some result)) (rows_of rows.now n) ≡ true) × (bounded (Some result) side price ≡ true) }
+fn bounds_for(rows: LentRows<'_>, bounds: Option<Bounds>, side: L3Side, price: u64) -> Bounds
+    requires { all (row_bounded bounds) (rows_in rows) ≡ true }
+    ensures { (all (row_bounded (Some result)) (rows_in rows.entry) ≡ true) × (bounded (Some result) side price ≡ true) }
 {
     let Some(known) = bounds else {
-        return bounds_of(rows, n).widened(side, price);
+        return bounds_of(rows).widened(side, price);
     };
     if known.clear_of(side, price) {
         return known.widened(side, price);
     }
-    bounds_of(rows, n).widened(side, price)
+    bounds_of(rows).widened(side, price)
 }
 
 // The bounds to go by for an event, wide enough for the order that it may add.
-pub fn foresee(rows: &[u64], n: usize, bounds: Option<Bounds>, event: L3Event) -> Option<Bounds>
-    requires { Lent rows.now n × (all (row_bounded bounds) (rows_of rows.now n) ≡ true) }
-    ensures { (all (row_bounded result) (rows_of rows.now n) ≡ true) × Foreseen result event }
+pub fn foresee(rows: LentRows<'_>, bounds: Option<Bounds>, event: L3Event) -> Option<Bounds>
+    requires { all (row_bounded bounds) (rows_in rows) ≡ true }
+    ensures { (all (row_bounded result) (rows_in rows.entry) ≡ true) × Foreseen result event }
 {
     match event {
         L3Event::Received { .. } => bounds,
         L3Event::Open { side, price, .. } => {
-            let wide = bounds_for(rows, n, bounds, side, message::amount::size_of(price));
+            let wide = bounds_for(rows, bounds, side, message::amount::size_of(price));
             Some(wide)
         }
         L3Event::Done { .. } => bounds,

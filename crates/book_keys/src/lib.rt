@@ -3,44 +3,42 @@
 
 ghost use Rattle.std.specs.Prelude.{◌≡◌};
 ghost use Rattle.book.specs.Line.{levels, side_levels};
-ghost use Rattle.book.specs.Rows.{Lent, rows_of, line_of};
+ghost use Rattle.book.specs.Rows.{line_of};
+ghost use Rattle.book.specs.Lending.{rows_in};
 ghost use Rattle.book.specs.Broken.{id_twice};
 ghost use Rattle.book_keys.specs.Others.{some_other};
 
+use book::LentRows;
 use book_row_keys::KeyKind;
 use message::L3Side;
 
-// Whether two of `n` rows have the same id.
-pub fn id_twice(rows: &[u64], n: usize) -> bool
-    requires { Lent rows.now n }
-    ensures { result ≡ id_twice (line_of (rows_of rows.now n)) }
+// Whether two rows have the same id.
+pub fn id_twice(rows: LentRows<'_>) -> bool
+    ensures { result ≡ id_twice (line_of (rows_in rows.entry)) }
 {
-    book_buckets::count_keys(rows, n, KeyKind::Id) != n
+    book_buckets::count_keys(rows, KeyKind::Id) != rows.count
 }
 
-// How many levels `n` rows have.
-pub fn level_count(rows: &[u64], n: usize) -> usize
-    requires { Lent rows.now n }
-    ensures { result ≡ levels (line_of (rows_of rows.now n)) }
+// How many levels the rows have.
+pub fn level_count(rows: LentRows<'_>) -> usize
+    ensures { result ≡ levels (line_of (rows_in rows.entry)) }
 {
-    book_buckets::count_keys(rows, n, KeyKind::Level)
+    book_buckets::count_keys(rows, KeyKind::Level)
 }
 
-// Whether one of `n` rows is not of the side.
-fn some_other(rows: &[u64], n: usize, side: L3Side) -> bool
-    requires { Lent rows.now n }
-    ensures { result ≡ some_other side (rows_of rows.now n) }
+// Whether a row is not of the side.
+fn some_other(rows: LentRows<'_>, side: L3Side) -> bool
+    ensures { result ≡ some_other side (rows_in rows.entry) }
 {
-    (0..n).any(|i| book::side_of(book::get_row(rows, i).kind) != side)
+    (0..rows.count).any(|i| book::side_of(rows.get(i).kind) != side)
 }
 
-// How many levels a side of `n` rows has.
-pub fn side_level_count(rows: &[u64], n: usize, side: L3Side) -> usize
-    requires { Lent rows.now n }
-    ensures { result ≡ side_levels side (line_of (rows_of rows.now n)) }
+// How many levels a side has.
+pub fn side_level_count(rows: LentRows<'_>, side: L3Side) -> usize
+    ensures { result ≡ side_levels side (line_of (rows_in rows.entry)) }
 {
-    let count = book_buckets::count_keys(rows, n, KeyKind::LevelOf(side));
-    if some_other(rows, n, side) {
+    let count = book_buckets::count_keys(rows, KeyKind::LevelOf(side));
+    if some_other(rows, side) {
         count - 1
     } else {
         count

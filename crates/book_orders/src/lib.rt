@@ -3,22 +3,22 @@
 
 ghost use Rattle.std.specs.Prelude.{◌≡◌, cond, ◌++◌, ◌+◌, ◌≤◌, length, take, drop};
 ghost use Rattle.book.specs.Line.{same_level};
-ghost use Rattle.book.specs.Rows.{Lent, rows_of, side_of};
+ghost use Rattle.book.specs.Rows.{side_of};
+ghost use Rattle.book.specs.Lending.{rows_in};
 ghost use Rattle.book_levels.specs.Levels.{written};
 ghost use Rattle.book_queue.specs.Queue.{rows_at, entry_width, entry_words, entries_words};
 
-use book::Resting;
+use book::{LentRows, Resting};
 use book_queue::EntryForm;
 use message::L3Side;
 
-// How many of `n` rows rest at a side and price.
-pub fn order_count(rows: &[u64], n: usize, side: L3Side, price: u64) -> usize
-    requires { Lent rows.now n }
-    ensures { result ≡ length (rows_at side price (rows_of rows.now n)) }
+// How many rows rest at a side and price.
+pub fn order_count(rows: LentRows<'_>, side: L3Side, price: u64) -> usize
+    ensures { result ≡ length (rows_at side price (rows_in rows.entry)) }
 {
     let mut count = 0;
-    for i in (0..n).rev() {
-        if book_search::on_level(book::get_row(rows, i), side, price) {
+    for i in (0..rows.count).rev() {
+        if book_search::on_level(rows.get(i), side, price) {
             count += 1;
         }
     }
@@ -46,19 +46,12 @@ fn write_row(
 }
 
 // Writes the orders at a side and price, in order of arrival, from the first word of `out` on.
-pub fn write_orders(
-    rows: &[u64],
-    n: usize,
-    side: L3Side,
-    price: u64,
-    form: EntryForm,
-    out: &mut [u64],
-)
-    requires { Lent rows.now n × (length (entries_words form (rows_at side price (rows_of rows.now n))) ≤ length out.old) }
-    ensures { out.new ≡ written (entries_words form (rows_at side price (rows_of rows.now n))) out.old }
+pub fn write_orders(rows: LentRows<'_>, side: L3Side, price: u64, form: EntryForm, out: &mut [u64])
+    requires { length (entries_words form (rows_at side price (rows_in rows))) ≤ length out.old }
+    ensures { out.new ≡ written (entries_words form (rows_at side price (rows_in rows.entry))) out.old }
 {
     let mut at = 0;
-    for i in 0..n {
-        at = write_row(out, at, side, price, form, book::get_row(rows, i));
+    for i in 0..rows.count {
+        at = write_row(out, at, side, price, form, rows.get(i));
     }
 }

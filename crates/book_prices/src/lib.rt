@@ -5,9 +5,10 @@ ghost use Rattle.std.specs.Prelude.{◌≡◌, cond};
 ghost use Rattle.message.specs.declared.L3Side.TheVariants.{Buy, Sell};
 ghost use Rattle.message.specs.Same.{same_side};
 ghost use Rattle.book.specs.Line.{better, best, meet, would_cross};
-ghost use Rattle.book.specs.Rows.{Lent, rows_of, line_of, side_of};
+ghost use Rattle.book.specs.Rows.{line_of, side_of};
+ghost use Rattle.book.specs.Lending.{rows_in};
 
-use book::Resting;
+use book::{LentRows, Resting};
 use message::L3Side;
 
 // The better of a price and the best so far.
@@ -33,29 +34,26 @@ pub fn best_with(side: L3Side, o: Resting, best: Option<u64>) -> Option<u64>
 }
 
 // The best price of a side.
-pub fn best(rows: &[u64], n: usize, side: L3Side) -> Option<u64>
-    requires { Lent rows.now n }
-    ensures { result ≡ best side (line_of (rows_of rows.now n)) }
+pub fn best(rows: LentRows<'_>, side: L3Side) -> Option<u64>
+    ensures { result ≡ best side (line_of (rows_in rows.entry)) }
 {
     let mut best = None;
-    for i in (0..n).rev() {
-        best = best_with(side, book::get_row(rows, i), best);
+    for i in (0..rows.count).rev() {
+        best = best_with(side, rows.get(i), best);
     }
     best
 }
 
-pub fn best_bid(rows: &[u64], n: usize) -> Option<u64>
-    requires { Lent rows.now n }
-    ensures { result ≡ best Buy (line_of (rows_of rows.now n)) }
+pub fn best_bid(rows: LentRows<'_>) -> Option<u64>
+    ensures { result ≡ best Buy (line_of (rows_in rows.entry)) }
 {
-    best(rows, n, L3Side::Buy)
+    best(rows, L3Side::Buy)
 }
 
-pub fn best_ask(rows: &[u64], n: usize) -> Option<u64>
-    requires { Lent rows.now n }
-    ensures { result ≡ best Sell (line_of (rows_of rows.now n)) }
+pub fn best_ask(rows: LentRows<'_>) -> Option<u64>
+    ensures { result ≡ best Sell (line_of (rows_in rows.entry)) }
 {
-    best(rows, n, L3Side::Sell)
+    best(rows, L3Side::Sell)
 }
 
 // Whether a best buy is at or above a best sell.
@@ -69,12 +67,11 @@ pub fn meet(bid: Option<u64>, ask: Option<u64>) -> bool
 }
 
 // Whether an order at that side and price would cross the best of the other side.
-pub fn would_cross(rows: &[u64], n: usize, side: L3Side, price: u64) -> bool
-    requires { Lent rows.now n }
-    ensures { result ≡ would_cross side price (line_of (rows_of rows.now n)) }
+pub fn would_cross(rows: LentRows<'_>, side: L3Side, price: u64) -> bool
+    ensures { result ≡ would_cross side price (line_of (rows_in rows.entry)) }
 {
     match side {
-        L3Side::Buy => meet(Some(price), best_ask(rows, n)),
-        L3Side::Sell => meet(best_bid(rows, n), Some(price)),
+        L3Side::Buy => meet(Some(price), best_ask(rows)),
+        L3Side::Sell => meet(best_bid(rows), Some(price)),
     }
 }

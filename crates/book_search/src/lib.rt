@@ -4,9 +4,10 @@
 ghost use Rattle.std.specs.Prelude.{◌≡◌};
 ghost use Rattle.message.specs.Same.{same_id};
 ghost use Rattle.book.specs.Line.{has_level, same_level};
-ghost use Rattle.book.specs.Rows.{Lent, id_of, rows_of, line_of, side_of, find_row};
+ghost use Rattle.book.specs.Rows.{id_of, line_of, side_of, find_row};
+ghost use Rattle.book.specs.Lending.{rows_in};
 
-use book::Resting;
+use book::{LentRows, Resting};
 use message::{L3Side, OrderId};
 
 // Whether an order has the id.
@@ -21,12 +22,11 @@ pub fn has_id(o: Resting, id: OrderId) -> bool
     own == id
 }
 
-// The first of `n` rows with the id.
-pub fn find(rows: &[u64], n: usize, id: OrderId) -> Option<usize>
-    requires { Lent rows.now n }
-    ensures { result ≡ find_row (rows_of rows.now n) id 0 }
+// The first row with the id.
+pub fn find(rows: LentRows<'_>, id: OrderId) -> Option<usize>
+    ensures { result ≡ find_row (rows_in rows.entry) id 0 }
 {
-    (0..n).find(|&i| has_id(book::get_row(rows, i), id))
+    (0..rows.count).find(|&i| has_id(rows.get(i), id))
 }
 
 // Whether an order rests at a side and price.
@@ -36,10 +36,9 @@ pub fn on_level(o: Resting, side: L3Side, price: u64) -> bool
     (book::side_of(o.kind) == side) & (o.price == price)
 }
 
-// Whether one of `n` rows rests at a side and price.
-pub fn has_level(rows: &[u64], n: usize, side: L3Side, price: u64) -> bool
-    requires { Lent rows.now n }
-    ensures { result ≡ has_level side price (line_of (rows_of rows.now n)) }
+// Whether a row rests at a side and price.
+pub fn has_level(rows: LentRows<'_>, side: L3Side, price: u64) -> bool
+    ensures { result ≡ has_level side price (line_of (rows_in rows.entry)) }
 {
-    (0..n).any(|i| on_level(book::get_row(rows, i), side, price))
+    (0..rows.count).any(|i| on_level(rows.get(i), side, price))
 }

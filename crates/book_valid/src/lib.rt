@@ -3,10 +3,11 @@
 
 ghost use Rattle.std.specs.Prelude.{◌≡◌, ◌||◌};
 ghost use Rattle.book.specs.Line.{crossed};
-ghost use Rattle.book.specs.Rows.{Lent, rows_of, line_of};
+ghost use Rattle.book.specs.Rows.{line_of};
+ghost use Rattle.book.specs.Lending.{rows_in};
 ghost use Rattle.book.specs.Broken.{out_of_range, row_broken, some_row_broken, words_broken};
 
-use book::Resting;
+use book::{LentRows, Resting};
 use message::L3Side;
 
 // What an audit finds first. The Rust's other findings, on queues and totals that disagree with the orders, have no place here: a level is
@@ -39,14 +40,13 @@ fn row_broken(o: Resting) -> bool
 }
 
 // Whether a row breaks a rule by itself, or the best buy is at or above the best sell: one pass.
-fn screened(rows: &[u64], n: usize) -> bool
-    requires { Lent rows.now n }
-    ensures { result ≡ (some_row_broken (rows_of rows.now n) || crossed (line_of (rows_of rows.now n))) }
+fn screened(rows: LentRows<'_>) -> bool
+    ensures { result ≡ (some_row_broken (rows_in rows.entry) || crossed (line_of (rows_in rows.entry))) }
 {
     let mut bid: u64 = 0;
     let mut ask: u64 = LIMIT + 1;
-    for i in (0..n).rev() {
-        let o = book::get_row(rows, i);
+    for i in (0..rows.count).rev() {
+        let o = rows.get(i);
         if row_broken(o) {
             return true;
         }
@@ -58,15 +58,17 @@ fn screened(rows: &[u64], n: usize) -> bool
     ask <= bid
 }
 
-// Whether `n` rows are no book: number 3's part on the rows. More rows than 4,096, or than the words hold, are none.
+// Whether `n` rows in words are no book: number 3's part on the rows. More rows than 4,096, or than the words hold, are none.
 #[tactic(auto, using(crate::proofs::Crossing::levels_within))]
-pub fn rows_broken(rows: &[u64], n: usize, max_levels: usize) -> bool
-    ensures { result ≡ words_broken max_levels rows.now n }
+pub fn rows_broken(words: &[u64], n: usize, max_levels: usize) -> bool
+    ensures { result ≡ words_broken max_levels words.now n }
 {
-    book::MOST_ROWS < n
-        || rows.len() < book::ROW_WORDS * n
-        || screened(rows, n)
-        || book_keys::id_twice(rows, n)
+    if book::MOST_ROWS < n || words.len() < book::ROW_WORDS * n {
+        return true;
+    }
+    let rows = LentRows { words, count: n };
+    screened(rows)
+        || book_keys::id_twice(rows)
         // There are no more levels than rows.
-        || (max_levels < n && max_levels < book_keys::level_count(rows, n))
+        || (max_levels < n && max_levels < book_keys::level_count(rows))
 }

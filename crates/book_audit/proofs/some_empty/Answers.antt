@@ -14,5 +14,5 @@ use Rattle.book_audit.proofs.some_empty.Goals as goal
 pub returns : goal.returns
 returns c =
     let test = λ (o : Resting). eqb o.remaining 0 in
-    any_from_yields_List (λ i. test (row_at c.args.rows.now i)) _ _ _ c.any.ensures.ran (YieldsList-from_range 0 c.args.n c.args.n refl (sub-zero c.args.n)) (λ x b q k. search (rules, tests))
-    ∙ any_rows test some_empty refl (λ o os. refl) c.args.rows.now 0 c.args.n
+    any_from_yields_List (λ i. test (row_at c.args.rows.words.now i)) _ _ _ c.any.ensures.ran (YieldsList-from_range 0 c.args.rows.count c.args.rows.count refl (sub-zero c.args.rows.count)) (λ x b q k. search (rules, tests))
+    ∙ any_rows test some_empty refl (λ o os. refl) c.args.rows.words.now 0 c.args.rows.count

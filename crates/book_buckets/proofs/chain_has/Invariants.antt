@@ -9,8 +9,8 @@ use Rattle.book_buckets.proofs.chain_has.Given as goal
 abbrev pub invariant-loop-j : goal.invariant-loop-j
 invariant-loop-j l =
     (l.j ≤ l.first)
-    × (has_key (key_of l.kind) l.key (rest_of l.rows l.n l.first) ≡ has_key (key_of l.kind) l.key (rest_of l.rows l.n l.j))
-    × Headed l.kind l.m (bucket_of l.key l.m) (rest_of l.rows l.n l.j)
+    × (has_key (key_of l.kind) l.key (rest_of l.rows.words.now l.rows.count l.first) ≡ has_key (key_of l.kind) l.key (rest_of l.rows.words.now l.rows.count l.j))
+    × Headed l.kind l.m (bucket_of l.key l.m) (rest_of l.rows.words.now l.rows.count l.j)
 
 abbrev pub decreases-loop-j : goal.decreases-loop-j
 decreases-loop-j l = l.j

@@ -16,14 +16,14 @@ loop-k-init c = record {
   as_many = refl;
   as_long = refl;
   counted = rw rest-none;
-  headed = heads-none c.args.rows.now c.args.n c.args.kind (length c.args.heads.now) c.args.heads.now c.requires.empty (omega arith);
+  headed = heads-none c.args.rows.words.now c.args.rows.count c.args.kind (length c.args.heads.now) c.args.heads.now c.requires.empty (omega arith);
   chained = λ v h. absurd (omega (arith, h));
 }
 
 pub chain_has-requires : goal.chain_has-requires
 chain_has-requires c =
-    let w = linked c.args.rows.now c.args.n c.args.kind (length c.args.heads.now) c.loop-k.heads c.loop-k.next c.loop-k.k c.bucket-b.result c.key_of-key.result (omega arith)
-    (c.key_of-key.ensures ∙ ap (key_of c.args.kind) c.get_row-o.ensures)
+    let w = linked c.args.rows.words.now c.args.rows.count c.args.kind (length c.args.heads.now) c.loop-k.heads c.loop-k.next c.loop-k.k c.bucket-b.result c.key_of-key.result (omega arith)
+    (c.key_of-key.ensures ∙ ap (key_of c.args.kind) c.get-o.ensures)
     c.bucket-b.ensures.0
     c.bucket-b.ensures.1
     (omega arith)
@@ -32,23 +32,23 @@ chain_has-requires c =
     c.loop-k.invariant.chained in
     rw c.row_of-first.ensures
     (record {
-      lent = (c.requires.lent.0, (omega (arith, w.within), omega (arith, w.within)));
+      within = (omega (arith, w.within), omega (arith, w.within));
       chained = λ v hv. c.loop-k.invariant.chained v (omega (arith, w.within));
       headed = w.headed;
     })
 
 pub loop-k-preserved : goal.loop-k-preserved
 loop-k-preserved c =
-    let w = linked c.args.rows.now c.args.n c.args.kind (length c.args.heads.now) c.loop-k.heads c.loop-k.next c.loop-k.k c.bucket-b.result c.key_of-key.result (omega arith)
-    (c.key_of-key.ensures ∙ ap (key_of c.args.kind) c.get_row-o.ensures)
+    let w = linked c.args.rows.words.now c.args.rows.count c.args.kind (length c.args.heads.now) c.loop-k.heads c.loop-k.next c.loop-k.k c.bucket-b.result c.key_of-key.result (omega arith)
+    (c.key_of-key.ensures ∙ ap (key_of c.args.kind) c.get-o.ensures)
     c.bucket-b.ensures.0
     c.bucket-b.ensures.1
     (omega arith)
     (omega arith)
     c.loop-k.invariant.headed
     c.loop-k.invariant.chained in
-    let has : c.chain_has.result ≡ has_key (key_of c.args.kind) c.key_of-key.result (rest_of c.args.rows.now c.args.n (get_or c.loop-k.heads c.bucket-b.result 0)) =
-    c.chain_has.ensures ∙ ap (λ y. has_key (key_of c.args.kind) c.key_of-key.result (rest_of c.args.rows.now c.args.n y)) c.row_of-first.ensures in
+    let has : c.chain_has.result ≡ has_key (key_of c.args.kind) c.key_of-key.result (rest_of c.args.rows.words.now c.args.rows.count (get_or c.loop-k.heads c.bucket-b.result 0)) =
+    c.chain_has.ensures ∙ ap (λ y. has_key (key_of c.args.kind) c.key_of-key.result (rest_of c.args.rows.words.now c.args.rows.count y)) c.row_of-first.ensures in
     record {
       most = elim c.if-not-chain_has.branch [ then-not-chain_has t ↦ omega arith | else-not-chain_has t ↦ omega arith ];
       as_many = length-set c.loop-k.heads c.bucket-b.result (c.loop-k.k + 1) ∙ c.loop-k.invariant.as_many;
@@ -62,4 +62,4 @@ loop-k-preserved c =
     }
 
 pub returns : goal.returns
-returns c = c.loop-k.invariant.counted ∙ rw (rest_all c.args.rows.now c.args.n c.loop-k.k (omega arith))
+returns c = c.loop-k.invariant.counted ∙ rw (rest_all c.args.rows.words.now c.args.rows.count c.loop-k.k (omega arith))

@@ -13,7 +13,7 @@ invariant-loop-k l = record {
   most : l.count ≤ l.k;
   as_many : length l.heads ≡ length l.initial.heads;
   as_long : length l.next ≡ length l.initial.next;
-  counted : l.count ≡ count_keys (key_of l.kind) (rest_of l.rows l.n l.k);
-  headed : Heads l.rows l.n l.kind l.m l.heads l.k;
-  chained : Chained l.rows l.n l.kind l.m l.next l.k;
+  counted : l.count ≡ count_keys (key_of l.kind) (rest_of l.rows.words.now l.rows.count l.k);
+  headed : Heads l.rows.words.now l.rows.count l.kind l.m l.heads l.k;
+  chained : Chained l.rows.words.now l.rows.count l.kind l.m l.next l.k;
 }

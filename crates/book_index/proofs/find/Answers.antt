@@ -9,10 +9,10 @@ use Rattle.book_index.proofs.find.Goals as goal
 
 pub returns-then-place-eq0 : goal.returns-then-place-eq0
 returns-then-place-eq0 c =
-    let ps = c.args.places.now in
-    sym (unmarked-none ps c.args.id (no_place ps c.args.id (omega arith) (ap (λ b. get_or ps b 0) (sym c.bucket_of.ensures.0) ∙ sym c.row_of-place.ensures ∙ c.if-place-eq0.true)) (rows_of c.args.rows.now c.args.n) 0 c.requires.1.marks)
+    let ps = c.args.index.places.now in
+    sym (unmarked-none ps c.args.id (no_place ps c.args.id (omega arith) (ap (λ b. get_or ps b 0) (sym c.bucket_of.ensures.0) ∙ sym c.row_of-place.ensures ∙ c.if-place-eq0.true)) (rows_of c.args.index.rows.words.now c.args.index.rows.count) 0 c.args.index.indexed.marks)
 
 pub returns : goal.returns
 returns c =
     let near = rw c.in-Some.is at c.find_near.ensures in
-    near_is c.args.rows.now c.args.n _ c.args.id c.requires.1.single (omega (arith, near.0, c.min.ensures)) near.1
+    near_is c.args.index.rows.words.now c.args.index.rows.count _ c.args.id c.args.index.indexed.single (omega (arith, near.0, c.min.ensures)) near.1

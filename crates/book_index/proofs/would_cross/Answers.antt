@@ -4,4 +4,4 @@ use Rattle.book.specs.Rows.{rows_of}
 use Rattle.book_index.proofs.would_cross.Goals as goal
 
 pub returns-then-clears : goal.returns-then-clears
-returns-then-clears c = sym (clear_apart c.args.bounds c.args.side c.args.price (rows_of c.args.rows.now c.args.n) c.requires.1.within (sym c.clears.ensures ∙ c.if-clears.true))
+returns-then-clears c = sym (clear_apart c.args.index.bounds c.args.side c.args.price (rows_of c.args.index.rows.words.now c.args.index.rows.count) c.args.index.indexed.within (sym c.clears.ensures ∙ c.if-clears.true))

@@ -8,10 +8,10 @@ use Rattle.book_index.proofs.Index.{and_both, bounded_now, within-kept}
 use Rattle.book_index_upkeep.proofs.bounds_of.Goals as goal
 
 pub loop-i-init : goal.loop-i-init
-loop-i-init c = rw (rows-done c.args.rows.now c.args.n c.args.n (omega arith))
+loop-i-init c = rw (rows-done c.args.rows.words.now c.args.rows.count c.args.rows.count (omega arith))
 
 pub loop-i-preserved : goal.loop-i-preserved
 loop-i-preserved c =
-    let ws = c.args.rows.now in
-    let o = c.get_row-o.result in
-    rw (c.widened-bounds.ensures, c.side_of.ensures, rows_prev ws c.args.n c.loop-i.i (c.loop-i.i - 1) o (omega arith) c.loop-i.auto.i c.get_row-o.ensures) (and_both (row_bounded _ o) _ (bounded_now c.loop-i.bounds (side_of o.kind) o.price) (within-kept c.loop-i.bounds (side_of o.kind) o.price (rows_from ws c.loop-i.i (c.args.n - c.loop-i.i)) c.loop-i.invariant))
+    let ws = c.args.rows.words.now in
+    let o = c.get-o.result in
+    rw (c.widened-bounds.ensures, c.side_of.ensures, rows_prev ws c.args.rows.count c.loop-i.i (c.loop-i.i - 1) o (omega arith) c.loop-i.auto.i c.get-o.ensures) (and_both (row_bounded _ o) _ (bounded_now c.loop-i.bounds (side_of o.kind) o.price) (within-kept c.loop-i.bounds (side_of o.kind) o.price (rows_from ws c.loop-i.i (c.args.rows.count - c.loop-i.i)) c.loop-i.invariant))

@@ -8,4 +8,4 @@ use Rattle.book_index.specs.Index.{all, row_bounded}
 use Rattle.book_index_upkeep.proofs.bounds_of.Given as goal
 
 abbrev pub invariant-loop-i : goal.invariant-loop-i
-invariant-loop-i l = all (row_bounded (Some l.bounds)) (rows_from l.rows l.i (l.n - l.i)) ≡ true
+invariant-loop-i l = all (row_bounded (Some l.bounds)) (rows_from l.rows.words.now l.i (l.rows.count - l.i)) ≡ true

@@ -8,4 +8,4 @@ pub loop-i-init : goal.loop-i-init
 loop-i-init c = (refl, marks-none _ _)
 
 pub loop-i-preserved : goal.loop-i-preserved
-loop-i-preserved c = (search rules, marks-next c.args.rows.now c.loop-i.i c.get_row-o.result c.loop-i.places _ c.get_row-o.ensures c.mark.ensures c.loop-i.invariant.1)
+loop-i-preserved c = (search rules, marks-next c.args.rows.words.now c.loop-i.i c.get-o.result c.loop-i.places _ c.get-o.ensures c.mark.ensures c.loop-i.invariant.1)

@@ -7,4 +7,4 @@ use Rattle.book_index.specs.Index.{all, row_marked}
 use Rattle.book_index_upkeep.proofs.mark_rows.Given as goal
 
 abbrev pub invariant-loop-i : goal.invariant-loop-i
-invariant-loop-i l = (length l.places ≡ length l.initial.places) × (all (row_marked l.places) (rows_of l.rows l.i) ≡ true)
+invariant-loop-i l = (length l.places ≡ length l.initial.places) × (all (row_marked l.places) (rows_of l.rows.words.now l.i) ≡ true)

@@ -10,6 +10,6 @@ use Rattle.book_keys.proofs.id_twice.Goals as goal
 
 pub returns : goal.returns
 returns c =
-    let os = rows_of c.args.rows.now c.args.n in
-    ap (λ x. not (eqb x c.args.n)) c.count_keys.ensures
-    ∙ sym (twice_keys os ∙ ap (λ x. not (eqb (count_keys (key_of Id) os) x)) (length-rows c.args.rows.now 0 c.args.n))
+    let os = rows_of c.args.rows.words.now c.args.rows.count in
+    ap (λ x. not (eqb x c.args.rows.count)) c.count_keys.ensures
+    ∙ sym (twice_keys os ∙ ap (λ x. not (eqb (count_keys (key_of Id) os) x)) (length-rows c.args.rows.words.now 0 c.args.rows.count))

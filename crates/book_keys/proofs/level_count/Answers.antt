@@ -4,4 +4,4 @@ use Rattle.book_keys.proofs.Counts.{levels_keys}
 use Rattle.book_keys.proofs.level_count.Goals as goal
 
 pub returns : goal.returns
-returns c = c.count_keys.ensures ∙ sym (levels_keys (rows_of c.args.rows.now c.args.n))
+returns c = c.count_keys.ensures ∙ sym (levels_keys (rows_of c.args.rows.words.now c.args.rows.count))

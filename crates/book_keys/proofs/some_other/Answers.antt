@@ -15,5 +15,5 @@ use Rattle.book_keys.proofs.some_other.Goals as goal
 pub returns : goal.returns
 returns c =
     let test = λ (o : Resting). not (same_side (side_of o.kind) c.args.side) in
-    any_from_yields_List (λ i. test (row_at c.args.rows.now i)) _ _ _ c.any.ensures.ran (YieldsList-from_range 0 c.args.n c.args.n refl (sub-zero c.args.n)) (λ x b q k. search (rules, tests))
-    ∙ any_rows test (some_other c.args.side) refl (λ o os. refl) c.args.rows.now 0 c.args.n
+    any_from_yields_List (λ i. test (row_at c.args.rows.words.now i)) _ _ _ c.any.ensures.ran (YieldsList-from_range 0 c.args.rows.count c.args.rows.count refl (sub-zero c.args.rows.count)) (λ x b q k. search (rules, tests))
+    ∙ any_rows test (some_other c.args.side) refl (λ o os. refl) c.args.rows.words.now 0 c.args.rows.count

@@ -7,4 +7,4 @@ use Rattle.book_levels.specs.Levels.{level_at}
 use Rattle.book_levels.proofs.level_at.Given as goal
 
 abbrev pub invariant-loop-i : goal.invariant-loop-i
-invariant-loop-i l = l.level ≡ level_at l.side l.price (rows_from l.rows l.i (l.n - l.i))
+invariant-loop-i l = l.level ≡ level_at l.side l.price (rows_from l.sound.rows.words.now l.i (l.sound.rows.count - l.i))

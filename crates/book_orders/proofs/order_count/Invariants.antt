@@ -8,4 +8,4 @@ use Rattle.book_queue.specs.Queue.{rows_at}
 use Rattle.book_orders.proofs.order_count.Given as goal
 
 abbrev pub invariant-loop-i : goal.invariant-loop-i
-invariant-loop-i l = l.count ≡ length (rows_at l.side l.price (rows_from l.rows l.i (l.n - l.i)))
+invariant-loop-i l = l.count ≡ length (rows_at l.side l.price (rows_from l.rows.words.now l.i (l.rows.count - l.i)))

@@ -6,4 +6,4 @@ use Rattle.book_queue.proofs.Orders.{Writes}
 use Rattle.book_orders.proofs.write_orders.Given as goal
 
 abbrev pub invariant-loop-i : goal.invariant-loop-i
-invariant-loop-i l = Writes l.form l.side l.price l.rows l.n l.initial.out l.out l.at l.i × (length l.out ≡ length l.initial.out)
+invariant-loop-i l = Writes l.form l.side l.price l.rows.words.now l.rows.count l.initial.out l.out l.at l.i × (length l.out ≡ length l.initial.out)

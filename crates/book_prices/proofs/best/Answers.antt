@@ -5,7 +5,7 @@ use Rattle.book.proofs.Rows.{rows_prev, rows-done}
 use Rattle.book_prices.proofs.best.Goals as goal
 
 pub loop-i-init : goal.loop-i-init
-loop-i-init c = rw (rows-done c.args.rows.now c.args.n c.args.n (omega arith))
+loop-i-init c = rw (rows-done c.args.rows.words.now c.args.rows.count c.args.rows.count (omega arith))
 
 pub loop-i-preserved : goal.loop-i-preserved
-loop-i-preserved c = rw (c.best_with-best.ensures, rows_prev c.args.rows.now c.args.n c.loop-i.i (c.loop-i.i - 1) c.get_row.result (omega arith) (omega arith) c.get_row.ensures, c.loop-i.invariant)
+loop-i-preserved c = rw (c.best_with-best.ensures, rows_prev c.args.rows.words.now c.args.rows.count c.loop-i.i (c.loop-i.i - 1) c.get.result (omega arith) (omega arith) c.get.ensures, c.loop-i.invariant)

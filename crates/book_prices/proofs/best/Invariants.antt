@@ -6,4 +6,4 @@ use Rattle.book.specs.Line.{best as best_in}
 use Rattle.book_prices.proofs.best.Given as goal
 
 abbrev pub invariant-loop-i : goal.invariant-loop-i
-invariant-loop-i l = l.best ≡ best_in l.side (line_of (rows_from l.rows l.i (l.n - l.i)))
+invariant-loop-i l = l.best ≡ best_in l.side (line_of (rows_from l.rows.words.now l.i (l.rows.count - l.i)))

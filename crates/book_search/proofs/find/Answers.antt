@@ -13,5 +13,5 @@ use Rattle.book_search.proofs.find.Goals as goal
 pub returns : goal.returns
 returns c =
     sym (option_map_id c.find.result)
-    ∙ find_from_yields_List (λ i. same_id (id_of (row_at c.args.rows.now i)) c.args.id) _ _ _ c.find.ensures.ran (YieldsList-from_range 0 c.args.n c.args.n refl (sub-zero c.args.n)) (λ x b q k. search (rules, tests))
-    ∙ find_rows c.args.id c.args.rows.now 0 c.args.n
+    ∙ find_from_yields_List (λ i. same_id (id_of (row_at c.args.rows.words.now i)) c.args.id) _ _ _ c.find.ensures.ran (YieldsList-from_range 0 c.args.rows.count c.args.rows.count refl (sub-zero c.args.rows.count)) (λ x b q k. search (rules, tests))
+    ∙ find_rows c.args.id c.args.rows.words.now 0 c.args.rows.count

@@ -13,5 +13,5 @@ use Rattle.book_search.proofs.has_level.Goals as goal
 pub returns : goal.returns
 returns c =
     let test = λ (o : Resting). same_level (side_of o.kind) o.price c.args.side c.args.price in
-    any_from_yields_List (λ i. test (row_at c.args.rows.now i)) _ _ _ c.any.ensures.ran (YieldsList-from_range 0 c.args.n c.args.n refl (sub-zero c.args.n)) (λ x b q k. search (rules, tests))
-    ∙ any_rows test (λ os. has_level c.args.side c.args.price (line_of os)) refl (λ o os. refl) c.args.rows.now 0 c.args.n
+    any_from_yields_List (λ i. test (row_at c.args.rows.words.now i)) _ _ _ c.any.ensures.ran (YieldsList-from_range 0 c.args.rows.count c.args.rows.count refl (sub-zero c.args.rows.count)) (λ x b q k. search (rules, tests))
+    ∙ any_rows test (λ os. has_level c.args.side c.args.price (line_of os)) refl (λ o os. refl) c.args.rows.words.now 0 c.args.rows.count

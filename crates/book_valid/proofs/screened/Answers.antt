@@ -14,17 +14,17 @@ use Rattle.book_valid.proofs.Crossing.{highest, lowest, crossed_is}
 use Rattle.book_valid.proofs.screened.Goals as goal
 
 pub loop-i-init : goal.loop-i-init
-loop-i-init c = let none = rows-done c.args.rows.now c.args.n c.args.n (omega arith) in (rw none, rw none, rw none)
+loop-i-init c = let none = rows-done c.args.rows.words.now c.args.rows.count c.args.rows.count (omega arith) in (rw none, rw none, rw none)
 
 pub returns-then-row_broken : goal.returns-then-row_broken
 returns-then-row_broken c =
-    let here : some_row_broken (rows_from c.args.rows.now (c.loop-i.i - 1) (c.args.n - (c.loop-i.i - 1))) ≡ true =
-    rw (rows_prev c.args.rows.now c.args.n c.loop-i.i (c.loop-i.i - 1) c.get_row-o.result (omega arith) (omega arith) c.get_row-o.ensures, ← c.row_broken.ensures, c.if-row_broken.true) in
-    rw (broken-from c.args.rows.now c.args.n (c.loop-i.i - 1) (omega arith) here)
+    let here : some_row_broken (rows_from c.args.rows.words.now (c.loop-i.i - 1) (c.args.rows.count - (c.loop-i.i - 1))) ≡ true =
+    rw (rows_prev c.args.rows.words.now c.args.rows.count c.loop-i.i (c.loop-i.i - 1) c.get-o.result (omega arith) (omega arith) c.get-o.ensures, ← c.row_broken.ensures, c.if-row_broken.true) in
+    rw (broken-from c.args.rows.words.now c.args.rows.count (c.loop-i.i - 1) (omega arith) here)
 
 pub loop-i-preserved-in-Buy : goal.loop-i-preserved-in-Buy
 loop-i-preserved-in-Buy c =
-    let next = rows_prev c.args.rows.now c.args.n c.loop-i.i (c.loop-i.i - 1) c.get_row-o.result (omega arith) (omega arith) c.get_row-o.ensures in (
+    let next = rows_prev c.args.rows.words.now c.args.rows.count c.loop-i.i (c.loop-i.i - 1) c.get-o.result (omega arith) (omega arith) c.get-o.ensures in (
       rw (next, c.max-bid.ensures, c.loop-i.invariant.0, ← c.side_of.ensures, c.in-Buy.is),
       rw (next, c.loop-i.invariant.1, ← c.side_of.ensures, c.in-Buy.is),
       rw (next, ← c.row_broken.ensures, c.if-row_broken.false) c.loop-i.invariant.2,
@@ -32,7 +32,7 @@ loop-i-preserved-in-Buy c =
 
 pub loop-i-preserved : goal.loop-i-preserved
 loop-i-preserved c =
-    let next = rows_prev c.args.rows.now c.args.n c.loop-i.i (c.loop-i.i - 1) c.get_row-o.result (omega arith) (omega arith) c.get_row-o.ensures in (
+    let next = rows_prev c.args.rows.words.now c.args.rows.count c.loop-i.i (c.loop-i.i - 1) c.get-o.result (omega arith) (omega arith) c.get-o.ensures in (
       rw (next, c.loop-i.invariant.0, ← c.side_of.ensures, c.in-Sell.is),
       rw (next, c.min-ask.ensures, c.loop-i.invariant.1, ← c.side_of.ensures, c.in-Sell.is),
       rw (next, ← c.row_broken.ensures, c.if-row_broken.false) c.loop-i.invariant.2,
@@ -41,7 +41,7 @@ loop-i-preserved c =
 pub returns : goal.returns
 returns c =
     let z : c.loop-i.i ≡ 0 = omega arith in
-    let os = rows_of c.args.rows.now c.args.n in
-    let all : rows_from c.args.rows.now c.loop-i.i (c.args.n - c.loop-i.i) ≡ os = rw (z, sub-zero) in
+    let os = rows_of c.args.rows.words.now c.args.rows.count in
+    let all : rows_from c.args.rows.words.now c.loop-i.i (c.args.rows.count - c.loop-i.i) ≡ os = rw (z, sub-zero) in
     let sound : some_row_broken os ≡ false = ap some_row_broken (sym all) ∙ c.loop-i.invariant.2 in
     ap₂ leb (c.loop-i.invariant.1 ∙ ap lowest all) (c.loop-i.invariant.0 ∙ ap highest all) ∙ sym (rw sound (crossed_is os sound))

@@ -10,6 +10,6 @@ use Rattle.book_valid.proofs.screened.Given as goal
 
 abbrev pub invariant-loop-i : goal.invariant-loop-i
 invariant-loop-i l =
-    (l.bid ≡ highest (rows_from l.rows l.i (l.n - l.i)))
-    × (l.ask ≡ lowest (rows_from l.rows l.i (l.n - l.i)))
-    × (some_row_broken (rows_from l.rows l.i (l.n - l.i)) ≡ false)
+    (l.bid ≡ highest (rows_from l.rows.words.now l.i (l.rows.count - l.i)))
+    × (l.ask ≡ lowest (rows_from l.rows.words.now l.i (l.rows.count - l.i)))
+    × (some_row_broken (rows_from l.rows.words.now l.i (l.rows.count - l.i)) ≡ false)
