@@ -6,7 +6,7 @@ ghost use Rattle.text.specs.Writes.{Writes};
 ghost use Rattle.daybook_lines.specs.Most.{listing_bytes};
 ghost use Rattle.daybook.specs.Listing.{listing as Listing·listing, replay_called, replay_call};
 
-use daybook_file::day_shaped;
+use daybook_file::DayFile;
 use daybook_lines::{put_day, put_ending};
 use daybook_replay::replay_day;
 use daybook_segments::Stop;
@@ -25,14 +25,14 @@ fn list(file: &[u8], text: &mut [u8]) -> usize
     ensures writes { Writes text.old 0 (Listing·listing file.now) text.new result }
     ensures short { result ≤ listing_bytes }
 {
-    if !day_shaped(file) {
+    let Some(day_file) = DayFile::new(file) else {
         let stop = Some(Stop {
             piece: 0,
             number: NOT_A_DAY_FILE,
         });
         return put_ending(text, 0, MessageCounts::new(), stop);
-    }
-    put_day(text, replay_day(file))
+    };
+    put_day(text, replay_day(day_file))
 }
 
 // Replays the day file and writes its listing at the front of `listing`: the listing's length, or 7, and nothing is written, where the slice is shorter.

@@ -1,18 +1,17 @@
 -- What the rules of a day file give: every pair and every piece lies in the file.
 -- Assumes nothing.
 use Prim.Native.Nat.{ℕ, zero, suc, ◌+◌, ◌-◌, ◌≤◌, ◌<◌}
-use native.Mathlib.Nat.{add-zero, sub-zero}
+use native.Mathlib.Nat.{add-zero}
 use native.Mathlib.Omega.{arith}
-use mathlib.Core.Path.{◌≡◌, refl, ap, ◌∙◌}
-use mathlib.Core.Bool.{true, false, ◌&&◌, cond}
+use mathlib.Core.Path.{◌≡◌, ap}
+use mathlib.Core.Bool.{true, ◌&&◌}
 use mathlib.Core.List.{List, ◌∷◌, []}
-use borrow.Author.Tests.{leb-true, le-leb, lt-leb, lt-ltb, le-ltb}
+use borrow.Author.Tests.{leb-true}
 use lib.Dec.{leb, ltb}
-use lib.ListN.{length, take, drop, length-take, length-drop}
+use lib.ListN.{length, take, drop}
 use Rattle.laws.proofs.Bools.{and_yes}
 use Rattle.piece.specs.Bytes.{part}
-use Rattle.piece.specs.Piece.{product_id_at}
-use Rattle.daybook_file.specs.DayFile.{day_bytes, piece_count, pair_at, offset_of, length_of, end_of, before_next, in_order, in_place, day_shaped, piece_at, pieces_from, pieces_of, no_product, product_of}
+use Rattle.daybook_file.specs.DayFile.{day_bytes, piece_count, pair_at, offset_of, length_of, end_of, before_next, in_order, in_place, day_shaped, piece_at, pieces_from}
 
 -- the piece d places behind piece i ends within the file: by the next one's offset, which is not past the next one's end
 in-order-ends : (f : List ℕ) (k i d : ℕ) → in_order f i k ≡ true → d ≤ k → end_of f (i + d) ≤ length f
@@ -36,9 +35,6 @@ module _ (f : List ℕ) (h : day_shaped f ≡ true) where
   unfolding day_shaped
   rules = and_yes (leb (length f) day_bytes && leb (pair_at (piece_count f)) (length f)) (in_place f (piece_count f)) h
 
-  pub few_bytes : length f ≤ day_bytes
-  few_bytes = leb-true (length f) day_bytes (and_yes (leb (length f) day_bytes) (leb (pair_at (piece_count f)) (length f)) rules.0).0
-
   pub pairs-inside : pair_at (piece_count f) ≤ length f
   pairs-inside = leb-true (pair_at (piece_count f)) (length f) (and_yes (leb (length f) day_bytes) (leb (pair_at (piece_count f)) (length f)) rules.0).1
 
@@ -47,41 +43,10 @@ module _ (f : List ℕ) (h : day_shaped f ≡ true) where
 
 -- ---- how the code meets them
 
-pub placed-none : (f : List ℕ) → in_place f 0 ≡ true
-unfolding in_place
-placed-none f = refl
-
-pub placed-early : (f : List ℕ) (count : ℕ) → 0 < count → offset_of f 0 < pair_at count → in_place f count ≡ false
-unfolding in_place
-placed-early f zero some h = absurd (omega arith)
-placed-early f (suc k) some h = rw (lt-leb (pair_at (suc k)) (offset_of f 0) h)
-
-pub placed_first : (f : List ℕ) (count : ℕ) → 0 < count → pair_at count ≤ offset_of f 0 → in_place f count ≡ in_order f 0 (count - 1 - 0)
-unfolding in_place
-placed_first f zero some h = absurd (omega arith)
-placed_first f (suc k) some h = rw (le-leb (pair_at (suc k)) (offset_of f 0) h, let e : suc k - 1 - 0 ≡ k = omega arith in e)
-
 module _ (f : List ℕ) (count i : ℕ) where
   pub order-next : i + 1 < count → in_order f i (count - 1 - i) ≡ before_next f i && in_order f (i + 1) (count - 1 - (i + 1))
   unfolding in_order
   order-next h = rw (let e : count - 1 - i ≡ suc (count - 1 - (i + 1)) = omega arith in e)
-
-  pub order-last : count ≤ i + 1 → in_order f i (count - 1 - i) ≡ leb (end_of f i) (length f)
-  unfolding in_order
-  order-last h = rw (let e : count - 1 - i ≡ 0 = omega arith in e)
-
-module _ (f : List ℕ) where
-  pub shaped-long : day_bytes < length f → day_shaped f ≡ false
-  unfolding day_shaped
-  shaped-long h = rw (lt-leb (length f) day_bytes h)
-
-  pub shaped-short : length f ≤ day_bytes → length f < pair_at (piece_count f) → day_shaped f ≡ false
-  unfolding day_shaped
-  shaped-short h q = rw (le-leb (length f) day_bytes h, lt-leb (pair_at (piece_count f)) (length f) q)
-
-  pub shaped-whole : length f ≤ day_bytes → pair_at (piece_count f) ≤ length f → day_shaped f ≡ in_place f (piece_count f)
-  unfolding day_shaped
-  shaped-whole h q = rw (le-leb (length f) day_bytes h, le-leb (pair_at (piece_count f)) (length f) q)
 
 -- a piece, cut from the file
 pub piece_cut : (f : List ℕ) (i : ℕ) → take (end_of f i - offset_of f i) (drop (offset_of f i) f) ≡ piece_at f i
@@ -96,23 +61,3 @@ pieces-next f n i h = rw (let e : n - i ≡ suc (n - (i + 1)) = omega arith in e
 pub pieces_none : (f : List ℕ) (n i : ℕ) → n ≤ i → pieces_from f i (n - i) ≡ []
 unfolding pieces_from
 pieces_none f n i h = rw (let e : n - i ≡ 0 = omega arith in e)
-
--- ---- the first piece's product
-
-pub product-none : (f : List ℕ) → piece_count f ≡ 0 → product_of (pieces_of f) ≡ no_product
-unfolding product_of pieces_of pieces_from
-product-none f h = rw h
-
-module _ (f : List ℕ) (h : 0 < piece_count f) (inside : end_of f 0 ≤ length f) where
-  product-some : product_of (pieces_of f) ≡ cond (ltb (length (piece_at f 0)) 17) no_product (product_id_at (piece_at f 0) 1)
-  unfolding product_of pieces_of
-  product-some = rw (rw (sub-zero (piece_count f)) at (pieces-next f (piece_count f) 0 h))
-
-  length-first : length (piece_at f 0) ≡ end_of f 0 - offset_of f 0
-  length-first = rw (← piece_cut f 0) (rw (length-take (end_of f 0 - offset_of f 0) (drop (offset_of f 0) f), length-drop (offset_of f 0) f) (omega arith))
-
-  pub product-short : end_of f 0 - offset_of f 0 < 17 → product_of (pieces_of f) ≡ no_product
-  product-short q = product-some ∙ rw (lt-ltb (length (piece_at f 0)) 17 (omega (arith, length-first)))
-
-  pub product-read : 17 ≤ end_of f 0 - offset_of f 0 → product_of (pieces_of f) ≡ product_id_at (piece_at f 0) 1
-  product-read q = product-some ∙ rw (le-ltb (length (piece_at f 0)) 17 (omega (arith, length-first)))

@@ -1,8 +1,8 @@
 // A day file: pieces behind pairs of offset and length. Whether it keeps the format's rules, and where its pieces are.
 #![tactic(auto)]
 
-ghost use Rattle.std.specs.Prelude.{◌≡◌, true, ◌+◌, ◌<◌, ◌≤◌, length};
-ghost use Rattle.daybook_file.specs.DayFile.{piece_count, pair_at, offset_of, end_of, before_next, in_place, day_shaped, pieces_of, product_of};
+ghost use Rattle.std.specs.Prelude.{◌≡◌, true, false, ◌+◌, ◌<◌, ◌≤◌, length, MatchOption};
+ghost use Rattle.daybook_file.specs.DayFile.{piece_count, pair_at, offset_of, end_of, before_next, in_place, day_shaped, piece_at, pieces_of, product_of};
 
 use message::ProductId;
 use piece::{read_le32, read_product_id};
@@ -21,6 +21,7 @@ const OFFSET_BYTES: usize = 4;
 const PRODUCT_BYTES: usize = 17;
 
 // Where piece `i` starts.
+#[tactic(auto, unfolding(crate::specs::DayFile::four_at))]
 pub fn piece_start(file: &[u8], i: usize) -> usize
     requires { pair_at (i + 1) ≤ length file.now }
     ensures { (result ≡ offset_of file.now i) × (result < 4294967296) }
@@ -29,6 +30,7 @@ pub fn piece_start(file: &[u8], i: usize) -> usize
 }
 
 // Where it ends. Both are 4-byte integers, so their sum fits.
+#[tactic(auto, unfolding(crate::specs::DayFile::four_at))]
 pub fn piece_end(file: &[u8], i: usize) -> usize
     requires { pair_at (i + 1) ≤ length file.now }
     ensures { result ≡ end_of file.now i }
@@ -37,6 +39,7 @@ pub fn piece_end(file: &[u8], i: usize) -> usize
 }
 
 // Whether piece `i` ends by the next one's offset, which is above its own.
+#[tactic(auto, unfolding(crate::specs::DayFile::before_next))]
 fn before_next(file: &[u8], i: usize) -> bool
     requires { pair_at (i + 2) ≤ length file.now }
     ensures { result ≡ before_next file.now i }
@@ -46,6 +49,7 @@ fn before_next(file: &[u8], i: usize) -> bool
 }
 
 // Whether `count` pieces, whose pairs the file has, are in place.
+#[tactic(auto, unfolding(crate::specs::DayFile::in_place, crate::specs::DayFile::in_order))]
 fn in_place(file: &[u8], count: usize) -> bool
     requires { pair_at count ≤ length file.now }
     ensures { result ≡ in_place file.now count }
@@ -65,6 +69,7 @@ fn in_place(file: &[u8], count: usize) -> bool
 }
 
 // Whether the file keeps the rules. The count is compared with the length before a pair is read, so that a false one costs no time.
+#[tactic(auto, unfolding(crate::specs::DayFile::four_at, crate::specs::DayFile::day_shaped))]
 pub fn day_shaped(file: &[u8]) -> bool
     ensures { result ≡ day_shaped file.now }
 {
@@ -81,26 +86,52 @@ pub fn day_shaped(file: &[u8]) -> bool
     in_place(file, count)
 }
 
-// How many pieces a file that keeps the rules has.
-pub fn piece_count(file: &[u8]) -> usize
-    requires { day_shaped file.now ≡ true }
-    ensures { result ≡ piece_count file.now }
-{
-    read_le32(file, 0) as usize
+// A file that keeps the rules.
+#[derive(Clone, Copy)]
+pub struct DayFile<'a> {
+    pub bytes: &'a [u8],
+    pub ghost shaped: { day_shaped bytes.now ≡ true },
 }
 
-// The product of its first piece; zeros where there is none, or it is too short to have one.
-pub fn first_product(file: &[u8]) -> ProductId
-    requires { day_shaped file.now ≡ true }
-    ensures { result ≡ product_of (pieces_of file.now) }
-{
-    if piece_count(file) == 0 {
-        return ProductId { high: 0, low: 0 };
+impl<'a> DayFile<'a> {
+    // The file of these bytes, if they keep the rules.
+    pub fn new(bytes: &'a [u8]) -> Option<DayFile<'a>>
+        ensures { MatchOption result (day_shaped bytes.now ≡ false) (λ file. file.bytes.now ≡ bytes.now) }
+    {
+        if day_shaped(bytes) {
+            Some(DayFile { bytes })
+        } else {
+            None
+        }
     }
-    let start = piece_start(file, 0);
-    let end = piece_end(file, 0);
-    if end - start < PRODUCT_BYTES {
-        return ProductId { high: 0, low: 0 };
+
+    // How many pieces it has.
+    pub fn piece_count(self) -> usize
+        ensures { result ≡ piece_count self.entry.bytes.now }
+    {
+        read_le32(self.bytes, 0) as usize
     }
-    read_product_id(&file[start..end], 1)
+
+    // Its piece `i`, counted from 0.
+    pub fn piece(self, i: usize) -> &'a [u8]
+        requires { i < piece_count self.bytes.now }
+        ensures { result.now ≡ piece_at self.entry.bytes.now i }
+    {
+        &self.bytes[piece_start(self.bytes, i)..piece_end(self.bytes, i)]
+    }
+
+    // The product of its first piece; zeros where there is none, or it is too short to have one.
+    #[tactic(auto, unfolding(crate::specs::DayFile::product_of, crate::specs::DayFile::pieces_of, crate::specs::DayFile::pieces_from))]
+    pub fn first_product(self) -> ProductId
+        ensures { result ≡ product_of (pieces_of self.entry.bytes.now) }
+    {
+        if self.piece_count() == 0 {
+            return ProductId { high: 0, low: 0 };
+        }
+        let piece = self.piece(0);
+        if piece.len() < PRODUCT_BYTES {
+            return ProductId { high: 0, low: 0 };
+        }
+        read_product_id(piece, 1)
+    }
 }

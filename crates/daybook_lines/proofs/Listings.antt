@@ -5,7 +5,7 @@ use Prim.Native.Nat.{ℕ, ◌+◌, ◌*◌, ◌≤◌, ◌<◌}
 use native.Mathlib.Nat.{add-zero, zero-add}
 use native.Mathlib.Numerals.{add-one}
 use native.Mathlib.Omega.{arith}
-use mathlib.Core.Path.{◌≡◌, refl, sym, ◌∙◌}
+use mathlib.Core.Path.{◌≡◌, sym, ◌∙◌}
 use mathlib.Core.List.{List, [], ◌∷◌, map}
 use lib.ListN.{length, get_or, drop, drop_of_length-le}
 use lib.Seq.{sets, drop-cons}
@@ -49,9 +49,6 @@ pub record Written (t : List ℕ) (gs : List Segment) (u : List ℕ) (at i : ℕ
   pub text : sets u at (segment_lines (i + 1) (drop i gs)) ≡ sets t 0 (segment_lines 1 gs)
   pub ends : at + length (segment_lines (i + 1) (drop i gs)) ≡ length (segment_lines 1 gs)
   pub short : at ≤ most_segment * i
-
-pub written_none : (t : List ℕ) (gs : List Segment) → Written t gs t 0 0
-written_none t gs = record { text = refl; ends = zero-add (length (segment_lines 1 gs)); short = omega arith }
 
 pub written_next : (t : List ℕ) (gs : List Segment) (u v : List ℕ) (at r i : ℕ) (g : Segment) → Written t gs u at i → i < length gs → get_or gs i no_segment ≡ g
     → Writes u at (segment_line (i + 1) g) v r → r ≤ at + most_segment → Written t gs v r (i + 1)

@@ -8,12 +8,13 @@ ghost use Rattle.daybook_segments.specs.DaySegments.{day_segments};
 ghost use Rattle.daybook_lines.specs.Listed.{end_word, segment_line, segment_lines, counts_in, stop_line, ending, listed};
 ghost use Rattle.daybook_lines.specs.Most.{most_segment, most_stop, most_ending, listing_bytes};
 
-use daybook_segments::{DAY_SEGMENTS, Day, Stop};
+use daybook_segments::{Day, Stop};
 use reconstructor_counts::MessageCounts;
 use reconstructor_segments::Segment;
 use text::{put_bytes, put_number, put_numbers};
 
 // How a segment ended, behind a space.
+#[tactic(auto, unfolding(crate::specs::Listed::end_word))]
 fn put_end(text: &mut [u8], at: usize, end: u64) -> usize
     requires { at + most_spaced ≤ length text.old }
     ensures writes { Writes text.old at (space ∷ end_word end) text.new result }
@@ -43,15 +44,15 @@ fn put_segment(text: &mut [u8], at: usize, place: usize, segment: Segment) -> us
     put_bytes(text, elapsed, b"\n")
 }
 
-// The lines of the first `count` segments, the first place being 1.
-fn put_segments(text: &mut [u8], segments: [Segment; DAY_SEGMENTS], count: usize) -> usize
-    requires { (count ≤ day_segments) × (most_segment * day_segments ≤ length text.old) }
-    ensures writes { Writes text.old 0 (segment_lines 1 (take count segments)) text.new result }
+// The lines of the segments, the first place being 1.
+fn put_segments(text: &mut [u8], segments: &[Segment]) -> usize
+    requires { (length segments.now ≤ day_segments) × (most_segment * day_segments ≤ length text.old) }
+    ensures writes { Writes text.old 0 (segment_lines 1 segments.now) text.new result }
     ensures short { result ≤ most_segment * day_segments }
 {
     let mut at: usize = 0;
-    for i in 0..count {
-        at = put_segment(text, at, i + 1, segments[i]);
+    for (i, segment) in segments.iter().enumerate() {
+        at = put_segment(text, at, i + 1, *segment);
     }
     at
 }
@@ -76,6 +77,7 @@ fn counts_in(counts: MessageCounts) -> [u64; 12]
 }
 
 // Where the replay was stopped, in a line of its own.
+#[tactic(auto, unfolding(crate::specs::Listed::stop_line))]
 fn put_stop(text: &mut [u8], at: usize, stop: Option<Stop>) -> usize
     requires { at + most_stop ≤ length text.old }
     ensures writes { Writes text.old at (stop_line stop) text.new result }
@@ -111,6 +113,6 @@ pub fn put_day(text: &mut [u8], day: Day) -> usize
     ensures short { result ≤ listing_bytes }
 {
     let counts = day.book.counts;
-    let at = put_segments(text, day.segments, day.book.segments);
+    let at = put_segments(text, &day.segments[..day.book.segments]);
     put_ending(text, at, counts, day.stop)
 }

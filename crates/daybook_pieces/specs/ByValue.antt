@@ -15,7 +15,9 @@ use Rattle.reconstructor_checks.specs.StateChecks.{Usable}
 use Rattle.reconstructor.specs.Applied.{Worked, applied_to}
 use Rattle.reconstructor_bootstrap.specs.Numbers.{snapshot_number}
 use Rattle.reconstructor_bootstrap.specs.Bootstrap.{Booted, bootstrapped_to}
+use Rattle.daybook_pieces.specs.declared.Answer.{Answer}
 use Rattle.daybook_pieces.specs.declared.Turn.{Turn}
+use Rattle.daybook_pieces.specs.Answers.{piece_answer_number}
 use Rattle.daybook_segments.specs.DaySegments.{day_segments}
 use Rattle.daybook_pieces.specs.Played.{is_snapshot}
 use Rattle.message.specs.declared.L3Message.{L3Message}
@@ -31,11 +33,11 @@ pub record PlayedTo : Type 0 where
   pub started : Segment
 
 abbrev pub turned : Turn → Memory → PlayedTo
-turned t mem = record { number = t.number; book = t.book; memory = mem; segment = t.segment; at = t.at; started = t.started }
+turned t mem = record { number = piece_answer_number t.answer; book = t.book; memory = mem; segment = t.segment; at = t.at; started = t.started }
 
 -- one that starts no record
-abbrev pub unstarted_turn : ℕ → BookReconstructor → Segment → Option Bounds → Turn
-unstarted_turn k b g bounds = record { number = k; book = b; segment = g; at = day_segments; started = no_segment; bounds = bounds }
+abbrev pub unstarted_turn : Answer → BookReconstructor → Segment → Option Bounds → Turn
+unstarted_turn a b g bounds = record { answer = a; book = b; segment = g; at = day_segments; started = no_segment; bounds = bounds }
 
 abbrev pub unstarted : ℕ → BookReconstructor → Memory → Segment → PlayedTo
 unstarted k b mem g = record { number = k; book = b; memory = mem; segment = g; at = day_segments; started = no_segment }

@@ -9,25 +9,48 @@ ghost use Rattle.reconstructor_state.specs.State.{ceiling};
 ghost use Rattle.reconstructor_bootstrap.specs.Bootstrap.{bootstrapped_to};
 ghost use Rattle.daybook_segments.specs.DaySegments.{day_segments};
 ghost use Rattle.daybook_pieces.specs.Played.{is_snapshot};
+ghost use Rattle.daybook_pieces.specs.Answers.{piece_answer_number};
 ghost use Rattle.daybook_pieces.specs.ByValue.{unstarted_turn, Marks, turned, by_bootstrap_to, play_message_to, played_to, Plays};
 
 use book_index::Bounds;
 use book_index_upkeep::{bounds_of, mark_rows};
 use daybook_segments::DAY_SEGMENTS;
+use piece::PieceError;
 use piece_messages::read_message;
 use piece_snapshots::read_snapshot;
-use reconstructor_answers::answer_number;
+use reconstructor_answers::{Applied, ApplyError, answer_number};
 use reconstructor_apply_run::apply_in_run;
-use reconstructor_bootstrap::snapshot_number;
+use reconstructor_bootstrap::{BootstrapError, snapshot_number};
 use reconstructor_bootstrap_usable::bootstrap_usable;
 use reconstructor_segments::Segment;
 use reconstructor_state::BookReconstructor;
 
+// What a piece is answered with.
+#[derive(Clone, Copy)]
+pub enum Answer {
+    // Its bytes are no piece of its kind, or hold a value out of range.
+    Unread(PieceError),
+    Snapshot(Result<(), BootstrapError>),
+    Message(Result<Applied, ApplyError>),
+}
+
+impl Answer {
+    // Its number in 01's table.
+    pub fn number(self) -> u64
+        ensures { result ≡ piece_answer_number self }
+    {
+        match self {
+            Answer::Unread(error) => error.number(),
+            Answer::Snapshot(answer) => snapshot_number(answer),
+            Answer::Message(answer) => answer_number(answer),
+        }
+    }
+}
+
 // What a piece comes to, beside the rows and the index's places.
 #[derive(Clone, Copy)]
 pub struct Turn {
-    // The number that it is answered with.
-    pub number: u64,
+    pub answer: Answer,
     pub book: BookReconstructor,
     // The last segment's record; and the record that a snapshot starts, with its place, which is past the list's end where none is started.
     pub segment: Segment,
@@ -38,12 +61,17 @@ pub struct Turn {
 }
 
 // One that starts no record.
-fn unstarted(number: u64, book: BookReconstructor, segment: Segment, bounds: Option<Bounds>) -> Turn
-    ensures { result ≡ unstarted_turn number book segment bounds }
+fn unstarted(
+    answer: Answer,
+    book: BookReconstructor,
+    segment: Segment,
+    bounds: Option<Bounds>,
+) -> Turn
+    ensures { result ≡ unstarted_turn answer book segment bounds }
 {
     let started = Segment::none();
     Turn {
-        number,
+        answer,
         book,
         segment,
         at: DAY_SEGMENTS,
@@ -91,13 +119,13 @@ fn play_snapshot(
     ensures plays { Plays result.book rows.new places.new result.bounds }
 {
     match read_snapshot(bytes) {
-        Err(error) => unstarted(error.number(), book, last, bounds),
+        Err(error) => unstarted(Answer::Unread(error), book, last, bounds),
         Ok(snapshot) => {
             let work = bootstrap_usable(book, rows, DAY_SEGMENTS, last, bytes, snapshot);
             let next = work.book;
             let bounds = index_after(rows, next.rows, places, bounds, work.at < DAY_SEGMENTS);
             Turn {
-                number: snapshot_number(work.answer),
+                answer: Answer::Snapshot(work.answer),
                 book: next,
                 segment: work.segment,
                 at: work.at,
@@ -122,13 +150,12 @@ fn play_message(
     ensures plays { Plays result.book rows.new places.new result.bounds }
 {
     match read_message(bytes) {
-        Err(error) => unstarted(error.number(), book, last, bounds),
+        Err(error) => unstarted(Answer::Unread(error), book, last, bounds),
         Ok(message) => {
             let run = apply_in_run(book, rows, last, places, bounds, message);
-            let answer = run.work.answer;
-            let after = run.work.book;
-            let segment = run.work.segment;
-            unstarted(answer_number(answer), after, segment, run.bounds)
+            let work = run.work;
+            let answer = Answer::Message(work.answer);
+            unstarted(answer, work.book, work.segment, run.bounds)
         }
     }
 }

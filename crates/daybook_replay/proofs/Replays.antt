@@ -26,6 +26,7 @@ use Rattle.reconstructor_checks.proofs.StateChecks.{segments-lent}
 use Rattle.daybook_pieces.specs.declared.Turn.{Turn}
 use Rattle.daybook_segments.specs.DaySegments.{day_segments, no_segments}
 use Rattle.daybook_pieces.specs.Played.{DayBook, played}
+use Rattle.daybook_pieces.specs.Answers.{piece_answer_number}
 use Rattle.daybook_pieces.specs.ByValue.{turned, played_to, Plays}
 use Rattle.daybook_pieces.proofs.Pieces.{Starts, stays, begins, piece-starts, put_back, played_put}
 use Rattle.daybook_file.specs.DayFile.{piece_count, pieces_from, piece_at, pieces_of, product_of}
@@ -54,7 +55,7 @@ pub data Keeps (sg : List Segment) (n : ℕ) (t : Turn) (sg' : List Segment) (g'
 
 -- what a piece leaves, so held
 pub record After (s : DayBook) (bytes : List ℕ) (t : Turn) (vs : List ℕ) (sg : List Segment) (g : Segment) : Type 0 where
-  pub is : played s bytes ≡ record { number = t.number; after = standing_of t.book vs sg g }
+  pub is : played s bytes ≡ record { number = piece_answer_number t.answer; after = standing_of t.book vs sg g }
   pub full : length sg ≡ day_segments
   pub none : t.book.segments ≡ 0 → g ≡ no_segment
 
@@ -77,14 +78,14 @@ module _ (b : BookReconstructor) (ws vs ps bytes : List ℕ) (bounds : Option Bo
   starts = rw e (piece-starts b (memory ws) g bytes plays.usable)
 
   -- the piece, on the list as it is held
-  turn_put : played (standing_of b ws sg g) bytes ≡ record { number = t.number; after = record { book = t.book; memory = memory vs; segments = set closed t.at t.started } }
+  turn_put : played (standing_of b ws sg g) bytes ≡ record { number = piece_answer_number t.answer; after = record { book = t.book; memory = memory vs; segments = set closed t.at t.started } }
   turn_put =
       played_put b (memory ws) (relast sg n g) (length-relast sg n g ∙ whole) bytes
       ∙ ap (put_back (relast sg n g) n) (ap (λ (x : Segment). played_to b (memory ws) x bytes) (last-held sg n g few unset) ∙ sym e)
-      ∙ ap (λ (l : List Segment). record { number = t.number; after = record { book = t.book; memory = memory vs; segments = set l t.at t.started } }) (relast-relast sg n g t.segment)
+      ∙ ap (λ (l : List Segment). record { number = piece_answer_number t.answer; after = record { book = t.book; memory = memory vs; segments = set l t.at t.started } }) (relast-relast sg n g t.segment)
 
-  holds : set closed t.at t.started ≡ relast sg' t.book.segments g' → played (standing_of b ws sg g) bytes ≡ record { number = t.number; after = standing_of t.book vs sg' g' }
-  holds q = turn_put ∙ ap (λ (l : List Segment). record { number = t.number; after = record { book = t.book; memory = memory vs; segments = l } }) q
+  holds : set closed t.at t.started ≡ relast sg' t.book.segments g' → played (standing_of b ws sg g) bytes ≡ record { number = piece_answer_number t.answer; after = standing_of t.book vs sg' g' }
+  holds q = turn_put ∙ ap (λ (l : List Segment). record { number = piece_answer_number t.answer; after = record { book = t.book; memory = memory vs; segments = l } }) q
 
   pub after : Keeps sg n t sg' g' → After (standing_of b ws sg g) bytes t vs sg' g'
   after k = go starts k
@@ -168,13 +169,13 @@ module _ (f ws₀ ps₀ ws ps : List ℕ) (b : BookReconstructor) (bounds : Opti
 
   module _ (vs qs : List ℕ) (t : Turn) (sg' : List Segment) (g' : Segment) (h : i < piece_count f) (a : After (standing_of b ws sg g) (piece_at f i) t vs sg' g') where
     -- the next piece, and what comes after it
-    next : day_of f ≡ cond (is_continued t.number) (replayed (standing_of t.book vs sg' g') (i + 1 + 1) (pieces_from f (i + 1) (piece_count f - (i + 1)))) (ended_by (standing_of t.book vs sg' g') (Some (record { piece = (i + 1); number = t.number })))
+    next : day_of f ≡ cond (is_continued (piece_answer_number t.answer)) (replayed (standing_of t.book vs sg' g') (i + 1 + 1) (pieces_from f (i + 1) (piece_count f - (i + 1)))) (ended_by (standing_of t.book vs sg' g') (Some (record { piece = (i + 1); number = piece_answer_number t.answer })))
     unfolding replayed
     next = l.rest ∙ rw (pieces-next f (piece_count f) i h, a.is)
 
-    pub loop-stops : is_continued t.number ≡ false → ended_with t.book sg' g' (Some (record { piece = (i + 1); number = t.number })) ≡ day_of f
-    loop-stops q = ended-with t.book vs sg' g' (Some (record { piece = (i + 1); number = t.number })) a.full ∙ sym (next ∙ rw q)
+    pub loop-stops : is_continued (piece_answer_number t.answer) ≡ false → ended_with t.book sg' g' (Some (record { piece = (i + 1); number = piece_answer_number t.answer })) ≡ day_of f
+    loop-stops q = ended-with t.book vs sg' g' (Some (record { piece = (i + 1); number = piece_answer_number t.answer })) a.full ∙ sym (next ∙ rw q)
 
-    pub loop-next : is_continued t.number ≡ true → Plays t.book vs qs t.bounds → length vs ≡ length ws → length qs ≡ length ps → Loops f ws₀ ps₀ vs qs t.book t.bounds g' sg' (i + 1)
+    pub loop-next : is_continued (piece_answer_number t.answer) ≡ true → Plays t.book vs qs t.bounds → length vs ≡ length ws → length qs ≡ length ps → Loops f ws₀ ps₀ vs qs t.book t.bounds g' sg' (i + 1)
     loop-next q plays hs hp =
         record { few = omega arith; plays = plays; full = a.full; none = a.none; rest = next ∙ rw q; rows = hs ∙ l.rows; places = hp ∙ l.places }

@@ -1,14 +1,13 @@
 // The replay of a day file that keeps its rules: its pieces in file order on a fresh book, up to one that stops it. 1, 2 and 3 turn away no state on the way.
 #![tactic(auto)]
 
-ghost use Rattle.std.specs.Prelude.{◌≡◌, true, ◌≤◌, length};
-ghost use Rattle.daybook_file.specs.DayFile.{day_shaped};
+ghost use Rattle.std.specs.Prelude.{◌≡◌, ◌≤◌, length};
 ghost use Rattle.daybook_segments.specs.DaySegments.{day_segments};
 ghost use Rattle.daybook_replay.specs.Replay.{fresh_rows, is_continued, day_of};
 ghost use Rattle.daybook_replay.specs.ByValue.{ended_with};
 
 use book_index_upkeep::bounds_of;
-use daybook_file::{first_product, piece_count, piece_end, piece_start};
+use daybook_file::DayFile;
 use daybook_pieces::play;
 use daybook_segments::{DAY_SEGMENTS, Day, Stop, filed, no_segments};
 use reconstructor_segments::Segment;
@@ -27,7 +26,7 @@ const PLACES: usize = 4096;
 fn goes_on(number: u64) -> bool
     ensures { result ≡ is_continued number }
 {
-    (number == 0) | (number == 256) | ((10 <= number) & (number <= 17))
+    matches!(number, 0 | 256 | 10..=17)
 }
 
 // The day with the last record put back into the list.
@@ -50,22 +49,19 @@ fn ended(
 }
 
 // The replay, with memory for the rows and an index of them. The last segment's record is held apart, and put into the list where a snapshot starts another.
-fn replay_pieces(file: &[u8], rows: &mut [u64], places: &mut [u16]) -> Day
-    requires file_value { day_shaped file.now ≡ true }
-    requires rows_value { (rows.old ≡ fresh_rows) × (length places.old ≤ 65536) }
-    ensures replays { result ≡ day_of file.now }
+fn replay_pieces(file: DayFile<'_>, rows: &mut [u64], places: &mut [u16]) -> Day
+    requires { (rows.old ≡ fresh_rows) × (length places.old ≤ 65536) }
+    ensures replays { result ≡ day_of file.entry.bytes.now }
     ensures few { result.book.segments ≤ day_segments }
 {
-    let count = piece_count(file);
+    let count = file.piece_count();
     let rules = VenueRules::with_limits(DAY_LIMIT, DAY_LIMIT);
-    let mut book = BookReconstructor::new(first_product(file), rules, 0);
+    let mut book = BookReconstructor::new(file.first_product(), rules, 0);
     let mut bounds = Some(bounds_of(rows, 0));
     let mut last = Segment::none();
     let mut segments = no_segments();
     for i in 0..count {
-        let start = piece_start(file, i);
-        let end = piece_end(file, i);
-        let turn = play(book, rows, places, bounds, last, &file[start..end]);
+        let turn = play(book, rows, places, bounds, last, file.piece(i));
         if turn.at < DAY_SEGMENTS {
             let kept = filed(segments, book.segments, turn.segment, turn.at, turn.started);
             segments = kept;
@@ -75,10 +71,11 @@ fn replay_pieces(file: &[u8], rows: &mut [u64], places: &mut [u16]) -> Day
         }
         book = turn.book;
         bounds = turn.bounds;
-        if !goes_on(turn.number) {
+        let number = turn.answer.number();
+        if !goes_on(number) {
             let stop = Some(Stop {
                 piece: i + 1,
-                number: turn.number,
+                number,
             });
             return ended(book, segments, last, stop);
         }
@@ -87,9 +84,8 @@ fn replay_pieces(file: &[u8], rows: &mut [u64], places: &mut [u16]) -> Day
 }
 
 // The same with memory of its own.
-pub fn replay_day(file: &[u8]) -> Day
-    requires { day_shaped file.now ≡ true }
-    ensures replays { result ≡ day_of file.now }
+pub fn replay_day(file: DayFile<'_>) -> Day
+    ensures replays { result ≡ day_of file.entry.bytes.now }
     ensures few { result.book.segments ≤ day_segments }
 {
     let mut rows = [0u64; DAY_ROW_WORDS];

@@ -27,6 +27,7 @@ pub struct Day {
     pub stop: Option<Stop>,
 }
 
+#[tactic(auto, unfolding(crate::specs::DaySegments::no_segments))]
 pub fn no_segments() -> [Segment; DAY_SEGMENTS]
     ensures { result ≡ no_segments }
 {

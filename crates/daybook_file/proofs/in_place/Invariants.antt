@@ -1,5 +1,5 @@
 -- The loop keeps that the pieces are in place exactly if those from `i` on are in order: a turn tests piece `i` against the next (`order-next`), and the last
--- one is tested against the file's end (`order-last`).
+-- one is tested against the file's end.
 use Prim.Native.Nat.{◌-◌, ◌<◌}
 use mathlib.Core.Path.{◌≡◌}
 use Rattle.daybook_file.specs.DayFile.{in_order, in_place}

@@ -17,11 +17,11 @@ apply_in_run-run-requires c =
 pub returns-in-Err : goal.returns-in-Err
 returns-in-Err c =
     let e = sym c.read_message.ensures.value ∙ c.in-Err.is in
-    rw (e, c.unstarted.ensures, c.number.ensures) record { played = refl; plays = c.requires }
+    rw (e, c.unstarted.ensures) record { played = refl; plays = c.requires }
 
 pub returns-in-Ok : goal.returns-in-Ok
 returns-in-Ok c =
     let e = sym c.read_message.ensures.value ∙ c.in-Ok.is in
     let a = c.args in
     let w = c.apply_in_run-run in
-    rw (e, c.unstarted-in-Ok.ensures, c.answer_number.ensures) record { played = message-played a.book a.rows.now _ a.last _ w.result.work c.requires.usable w.ensures.applies; plays = message-plays a.book a.rows.now _ a.last _ w.result.work c.requires.usable w.ensures.applies _ _ w.ensures.indexes }
+    rw (e, c.unstarted-in-Ok.ensures) record { played = message-played a.book a.rows.now _ a.last _ w.result.work c.requires.usable w.ensures.applies; plays = message-plays a.book a.rows.now _ a.last _ w.result.work c.requires.usable w.ensures.applies _ _ w.ensures.indexes }

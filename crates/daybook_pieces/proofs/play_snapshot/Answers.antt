@@ -22,10 +22,10 @@ index_after-bounds-requires c =
 pub returns-in-Err : goal.returns-in-Err
 returns-in-Err c =
     let a = c.args in
-    rw (c.unstarted.ensures, c.number.ensures) record { played = unread-played a.book (memory a.rows.now) a.last a.bytes.now _ c.requires.usable (sym c.read_snapshot.ensures.value ∙ c.in-Err.is); plays = c.requires }
+    rw c.unstarted.ensures record { played = unread-played a.book (memory a.rows.now) a.last a.bytes.now _ c.requires.usable (sym c.read_snapshot.ensures.value ∙ c.in-Err.is); plays = c.requires }
 
 pub returns-in-Ok : goal.returns-in-Ok
 returns-in-Ok c =
     let a = c.args in
     let few = c.requires.index.few in
-    rw c.snapshot_number.ensures record { played = snapshot-played a.book a.rows.now _ a.last a.bytes.now _ c.bootstrap_usable-work.result c.requires.usable (sym c.read_snapshot.ensures.value ∙ c.in-Ok.is) c.bootstrap_usable-work.ensures; plays = snapshot-plays a.book a.rows.now _ a.last a.bytes.now _ c.bootstrap_usable-work.result c.requires.usable (sym c.read_snapshot.ensures.value ∙ c.in-Ok.is) c.bootstrap_usable-work.ensures _ _ (omega (arith, c.index_after-bounds.auto.places)) c.index_after-bounds.ensures }
+    record { played = snapshot-played a.book a.rows.now _ a.last a.bytes.now _ c.bootstrap_usable-work.result c.requires.usable (sym c.read_snapshot.ensures.value ∙ c.in-Ok.is) c.bootstrap_usable-work.ensures; plays = snapshot-plays a.book a.rows.now _ a.last a.bytes.now _ c.bootstrap_usable-work.result c.requires.usable (sym c.read_snapshot.ensures.value ∙ c.in-Ok.is) c.bootstrap_usable-work.ensures _ _ (omega (arith, c.index_after-bounds.auto.places)) c.index_after-bounds.ensures }

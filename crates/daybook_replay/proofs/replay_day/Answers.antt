@@ -5,4 +5,4 @@ use Rattle.daybook_replay.proofs.replay_day.Goals as goal
 
 pub replay_pieces-requires : goal.replay_pieces-requires
 unfolding fresh_rows
-replay_pieces-requires c = record { file_value = c.requires; rows_value = (refl, search rules) }
+replay_pieces-requires c = (refl, search rules)

@@ -9,58 +9,43 @@ use Rattle.daybook_replay.proofs.Replays.{listed_few, Keeps, filed, apart, after
 use Rattle.daybook_replay.proofs.replay_pieces.Goals as goal
 use Rattle.daybook_replay.proofs.replay_pieces.Goals.{then-turn-lt-DAY_SEGMENTS, else-turn-lt-DAY_SEGMENTS}
 
-pub piece_count-count-requires : goal.piece_count-count-requires
-piece_count-count-requires c = c.requires.file_value
-
-pub first_product-requires : goal.first_product-requires
-first_product-requires c = c.requires.file_value
-
 pub bounds_of-requires : goal.bounds_of-requires
 bounds_of-requires c = record { room = omega arith; few = omega arith }
 
 pub loop-i-init : goal.loop-i-init
 loop-i-init c =
     let a = c.args in
-    rw (c.requires.rows_value.0, c.no_segments-segments.ensures, c.none-last.ensures) (loop-start a.file.now a.places.now (Some c.bounds_of.result) c.new-book.result c.requires.rows_value.1 (c.new-book.ensures ∙ rw (c.with_limits-rules.ensures, c.first_product.ensures)))
+    rw (c.requires.0, c.no_segments-segments.ensures, c.none-last.ensures) (loop-start a.file.bytes.now a.places.now (Some c.bounds_of.result) c.new-book.result c.requires.1 (c.new-book.ensures ∙ rw (c.with_limits-rules.ensures, c.first_product.ensures)))
 
-pub piece_start-start-requires : goal.piece_start-start-requires
-piece_start-start-requires c = omega (arith, pairs-inside c.args.file.now c.requires.file_value, c.loop-i-test.true, c.piece_count-count.ensures)
-
-pub piece_end-end-requires : goal.piece_end-end-requires
-piece_end-end-requires c = omega (arith, pairs-inside c.args.file.now c.requires.file_value, c.loop-i-test.true, c.piece_count-count.ensures)
-
-pub slice_bounds-play-end : goal.slice_bounds-play-end
-slice_bounds-play-end c =
-    let f = c.args.file.now in
-    let inside = piece_inside f c.requires.file_value c.loop-i.i (omega (arith, c.loop-i-test.true, c.piece_count-count.ensures)) in
-    omega (arith, c.piece_end-end.ensures)
+pub piece-requires : goal.piece-requires
+piece-requires c = rw c.piece_count-count.ensures at c.loop-i-test.true
 
 pub play-turn-requires : goal.play-turn-requires
 play-turn-requires c = c.loop-i.invariant.plays
 
 pub returns-then-not-goes_on : goal.returns-then-not-goes_on
 returns-then-not-goes_on c =
-    let f = c.args.file.now in
+    let f = c.args.file.bytes.now in
     let l = c.loop-i in
     let t = c.play-turn in
     let h = rw c.piece_count-count.ensures at c.loop-i-test.true in
-    let e = rw (c.piece_end-end.ensures, c.piece_start-start.ensures.0, piece_cut f l.i) at t.ensures.played in
+    let e = rw c.piece.ensures at t.ensures.played in
     let k : Keeps l.segments l.book.segments t.result c.if-turn-lt-DAY_SEGMENTS.segments c.if-turn-lt-DAY_SEGMENTS.last = elim c.if-turn-lt-DAY_SEGMENTS.branch [ then-turn-lt-DAY_SEGMENTS w ↦ filed w.if-turn-lt-DAY_SEGMENTS.true (w.segments-is ∙ w.filed-kept.ensures) w.last-is | else-turn-lt-DAY_SEGMENTS w ↦ apart w.if-turn-lt-DAY_SEGMENTS.false w.segments-is w.last-is ] in
     let a = after l.book l.rows _ l.places (piece_at f l.i) l.bounds l.segments c.if-turn-lt-DAY_SEGMENTS.segments l.last c.if-turn-lt-DAY_SEGMENTS.last t.result l.invariant.plays l.invariant.full l.invariant.none e k in
-    record { replays = c.ended.ensures ∙ loop-stops f _ _ l.rows l.places l.book l.bounds l.last l.segments l.i l.invariant _ l.places t.result c.if-turn-lt-DAY_SEGMENTS.segments c.if-turn-lt-DAY_SEGMENTS.last h a (sym c.goes_on.ensures ∙ c.if-not-goes_on.true); few = rw c.ended.ensures (listed_few t.result.book _ _ _ t.ensures.plays) }
+    record { replays = c.ended.ensures ∙ rw c.number-number.ensures (loop-stops f _ _ l.rows l.places l.book l.bounds l.last l.segments l.i l.invariant _ l.places t.result c.if-turn-lt-DAY_SEGMENTS.segments c.if-turn-lt-DAY_SEGMENTS.last h a (rw c.number-number.ensures at (sym c.goes_on.ensures ∙ c.if-not-goes_on.true))); few = rw c.ended.ensures (listed_few t.result.book _ _ _ t.ensures.plays) }
 
 pub loop-i-preserved : goal.loop-i-preserved
 loop-i-preserved c =
-    let f = c.args.file.now in
+    let f = c.args.file.bytes.now in
     let l = c.loop-i in
     let t = c.play-turn in
     let h = rw c.piece_count-count.ensures at c.loop-i-test.true in
-    let e = rw (c.piece_end-end.ensures, c.piece_start-start.ensures.0, piece_cut f l.i) at t.ensures.played in
+    let e = rw c.piece.ensures at t.ensures.played in
     let k : Keeps l.segments l.book.segments t.result c.if-turn-lt-DAY_SEGMENTS.segments c.if-turn-lt-DAY_SEGMENTS.last = elim c.if-turn-lt-DAY_SEGMENTS.branch [ then-turn-lt-DAY_SEGMENTS w ↦ filed w.if-turn-lt-DAY_SEGMENTS.true (w.segments-is ∙ w.filed-kept.ensures) w.last-is | else-turn-lt-DAY_SEGMENTS w ↦ apart w.if-turn-lt-DAY_SEGMENTS.false w.segments-is w.last-is ] in
     let a = after l.book l.rows _ l.places (piece_at f l.i) l.bounds l.segments c.if-turn-lt-DAY_SEGMENTS.segments l.last c.if-turn-lt-DAY_SEGMENTS.last t.result l.invariant.plays l.invariant.full l.invariant.none e k in
-    loop-next f _ _ l.rows l.places l.book l.bounds l.last l.segments l.i l.invariant _ _ t.result c.if-turn-lt-DAY_SEGMENTS.segments c.if-turn-lt-DAY_SEGMENTS.last h a (sym c.goes_on.ensures ∙ c.if-not-goes_on.false) t.ensures.plays t.auto.rows t.auto.places
+    loop-next f _ _ l.rows l.places l.book l.bounds l.last l.segments l.i l.invariant _ _ t.result c.if-turn-lt-DAY_SEGMENTS.segments c.if-turn-lt-DAY_SEGMENTS.last h a (rw c.number-number.ensures at (sym c.goes_on.ensures ∙ c.if-not-goes_on.false)) t.ensures.plays t.auto.rows t.auto.places
 
 pub returns : goal.returns
 returns c =
     let l = c.loop-i in
-    record { replays = c.ended-2.ensures ∙ loop-ends c.args.file.now _ _ l.rows l.places l.book l.bounds l.last l.segments l.i l.invariant (rw c.piece_count-count.ensures at c.loop-i-test.false); few = rw c.ended-2.ensures (listed_few l.book l.rows l.places l.bounds l.invariant.plays) }
+    record { replays = c.ended-2.ensures ∙ loop-ends c.args.file.bytes.now _ _ l.rows l.places l.book l.bounds l.last l.segments l.i l.invariant (rw c.piece_count-count.ensures at c.loop-i-test.false); few = rw c.ended-2.ensures (listed_few l.book l.rows l.places l.bounds l.invariant.plays) }
