@@ -20,6 +20,7 @@ const NOT_A_DAY_FILE: u64 = 60;
 pub const LISTING_BYTES: usize = 8192;
 
 // The listing of a file, written into a text that has room for any.
+#[tactic(auto, unfolding(crate::specs::Listing::listing))]
 fn list(file: &[u8], text: &mut [u8]) -> usize
     requires { listing_bytes ≤ length text.old }
     ensures writes { Writes text.old 0 (Listing·listing file.now) text.new result }
@@ -36,6 +37,7 @@ fn list(file: &[u8], text: &mut [u8]) -> usize
 }
 
 // Replays the day file and writes its listing at the front of `listing`: the listing's length, or 7, and nothing is written, where the slice is shorter.
+#[tactic(auto, unfolding(crate::specs::Listing::replay_call))]
 pub fn replay(file: &[u8], listing: &mut [u8]) -> u64
     ensures listing_after { replay_called result listing.new ≡ replay_call file.now listing.old }
     ensures bounded { length (Listing·listing file.now) ≤ listing_bytes }

@@ -5,10 +5,10 @@ use Prim.Native.Nat.{ℕ, ◌+◌, ◌<◌, ◌≤◌}
 use native.Mathlib.Omega.{arith}
 use mathlib.Core.Path.{◌≡◌, refl, sym, ap, subst, ◌∙◌}
 use mathlib.Core.Bool.{Bool, true, false, cond}
-use mathlib.Core.List.{List, [], ◌∷◌}
+use mathlib.Core.List.{List}
 use borrow.Author.Tests.{eqb-false, ltb-false}
-use lib.Dec.{eqb, ltb}
-use lib.ListN.{length, get_or, set, replicate, length-set}
+use lib.Dec.{ltb}
+use lib.ListN.{length, set, replicate, length-set}
 use lib.Seq.{set_out}
 use Rattle.message.specs.declared.L3Message.{L3Message}
 use Rattle.message.specs.declared.L3Snapshot.{L3Snapshot}
@@ -48,16 +48,6 @@ use Rattle.reconstructor_bootstrap.proofs.Laws.{refusal_of, counts_alone, accept
 use Rattle.daybook_segments.specs.DaySegments.{day_segments}
 use Rattle.daybook_pieces.specs.Played.{DayBook, Played, by_bootstrap, play_message, is_snapshot, played}
 use Rattle.daybook_pieces.specs.ByValue.{PlayedTo, unstarted, by_apply_to, by_bootstrap_to, play_message_to, played_to, Marks, Plays}
-
--- ---- the kind byte
-
-pub kind-none : (bytes : List ℕ) → length bytes ≡ 0 → is_snapshot bytes ≡ false
-kind-none [] h = refl
-kind-none (b ∷ bs) h = absurd (omega (arith, h))
-
-pub kind-some : (bytes : List ℕ) → (length bytes ≡ 0 → ⊥) → is_snapshot bytes ≡ eqb (get_or bytes 0 0) 0
-kind-some [] h = absurd (h refl)
-kind-some (b ∷ bs) h = refl
 
 -- ---- whether a segment is started
 

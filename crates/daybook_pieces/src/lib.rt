@@ -26,7 +26,7 @@ use reconstructor_segments::Segment;
 use reconstructor_state::BookReconstructor;
 
 // What a piece is answered with.
-#[derive(Clone, Copy)]
+#[derive(Drop)]
 pub enum Answer {
     // Its bytes are no piece of its kind, or hold a value out of range.
     Unread(PieceError),
@@ -48,7 +48,7 @@ impl Answer {
 }
 
 // What a piece comes to, beside the rows and the index's places.
-#[derive(Clone, Copy)]
+#[derive(Drop)]
 pub struct Turn {
     pub answer: Answer,
     pub book: BookReconstructor,
@@ -170,6 +170,7 @@ fn is_snapshot(bytes: &[u8]) -> bool
 }
 
 // The next piece of the day.
+#[tactic(auto, unfolding(crate::specs::ByValue::played_to))]
 pub fn play(
     book: BookReconstructor,
     rows: &mut [u64],

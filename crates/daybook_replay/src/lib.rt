@@ -84,6 +84,7 @@ fn replay_pieces(file: DayFile<'_>, rows: &mut [u64], places: &mut [u16]) -> Day
 }
 
 // The same with memory of its own.
+#[tactic(auto, unfolding(crate::specs::Replay::fresh_rows))]
 pub fn replay_day(file: DayFile<'_>) -> Day
     ensures replays { result ≡ day_of file.entry.bytes.now }
     ensures few { result.book.segments ≤ day_segments }

@@ -1,27 +1,16 @@
 -- The loop keeps that what the file comes to is the replay of the pieces left, from piece `i` on, on the book as it is now, its last record apart from the list
 -- (`Loops`). A turn plays one piece (`after`) and files the record that it starts (`Keeps`); it stops the day (`loop-stops`) or goes on (`loop-next`).
 use Rattle.std.specs.Prelude.{Some}
-use native.Mathlib.Omega.{arith}
 use mathlib.Core.Path.{sym, ◌∙◌}
-use Rattle.daybook_file.proofs.Days.{pairs-inside, piece_inside, piece_cut}
 use Rattle.daybook_file.specs.DayFile.{piece_at}
 use Rattle.daybook_replay.proofs.Replays.{listed_few, Keeps, filed, apart, after, loop-start, loop-ends, loop-stops, loop-next}
 use Rattle.daybook_replay.proofs.replay_pieces.Goals as goal
 use Rattle.daybook_replay.proofs.replay_pieces.Goals.{then-turn-lt-DAY_SEGMENTS, else-turn-lt-DAY_SEGMENTS}
 
-pub bounds_of-requires : goal.bounds_of-requires
-bounds_of-requires c = record { room = omega arith; few = omega arith }
-
 pub loop-i-init : goal.loop-i-init
 loop-i-init c =
     let a = c.args in
     rw (c.requires.0, c.no_segments-segments.ensures, c.none-last.ensures) (loop-start a.file.bytes.now a.places.now (Some c.bounds_of.result) c.new-book.result c.requires.1 (c.new-book.ensures ∙ rw (c.with_limits-rules.ensures, c.first_product.ensures)))
-
-pub piece-requires : goal.piece-requires
-piece-requires c = rw c.piece_count-count.ensures at c.loop-i-test.true
-
-pub play-turn-requires : goal.play-turn-requires
-play-turn-requires c = c.loop-i.invariant.plays
 
 pub returns-then-not-goes_on : goal.returns-then-not-goes_on
 returns-then-not-goes_on c =
