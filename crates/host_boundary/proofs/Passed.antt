@@ -4,7 +4,7 @@ use Prim.Native.Nat.{ℕ, ◌≤◌}
 use mathlib.Core.Path.{◌≡◌, refl, sym, ◌∙◌}
 use mathlib.Core.Bool.{Bool, true, false, ◌||◌, cond}
 use mathlib.Core.List.{List}
-use borrow.Author.Tests.{ltb-false, le-ltb, eq-eqb, ne_eqb}
+use borrow.Author.Tests.{ltb-false, le-ltb, eq-eqb, ne_eqb, eqb-true, eqb-false}
 use lib.Dec.{eqb, ltb}
 use lib.ListN.{length}
 use Rattle.laws.proofs.Bools.{or_no, absurd_bool}
@@ -80,6 +80,14 @@ turned-away k n away a e h = rw (← e, ne_eqb k 0 h)
 
 pub goes_on : {A : Type 0} (k n : ℕ) (away : ℕ → A) (a x : A) → k ≡ n → k ≡ 0 → x ≡ a → x ≡ unless_turned n away a
 goes_on k n away a x e z h = rw (← e, eq-eqb k 0 z) h
+
+-- whichever it is
+pub either_way : {A : Type 0} (k : ℕ) (away : ℕ → A) (a x : A) → ((k ≡ 0 → ⊥) → x ≡ away k) → (k ≡ 0 → x ≡ a) → x ≡ unless_turned k away a
+either_way k away a x turned on = go (eqb k 0) refl
+  where
+    go : (b : Bool) → eqb k 0 ≡ b → x ≡ cond b a (away k)
+    go true p = on (eqb-true k 0 p)
+    go false p = turned (eqb-false k 0 p)
 
 -- words that no value has
 pub wrong-number : (st : List ℕ) (lent : Extent) (less : Bool) → state_words ≤ length st → boundary st lent less false true ≡ 4

@@ -5,9 +5,8 @@ ghost use Rattle.std.specs.Prelude.{◌≡◌};
 ghost use Rattle.host_level_stops.specs.Stops.{level_called};
 ghost use Rattle.host_level_queue.specs.LevelQueue.{queue_call};
 
-use host_answers_levels::store_level;
-use host_level_stops::level_stop;
-use host_words::{load_book, load_side, signed};
+use host_level_stops::level_read;
+use host_words::signed;
 
 pub fn level_queue(
     state: &[u64],
@@ -20,18 +19,16 @@ pub fn level_queue(
 ) -> u64
     ensures { level_called result scratch.new out.new count.new ≡ queue_call state.now rows.now scratch.old side price out.old count.old }
 {
-    let stop = level_stop(state, rows, scratch.len(), side, count.len());
-    if stop != 0 {
-        return stop;
-    }
-    let book = load_book(state);
-    let answer = reconstructor_reads_queue::level_queue(
-        book,
+    let at = signed(price);
+    level_read(
+        state,
         rows,
         scratch,
-        load_side(side),
-        signed(price),
+        side,
         out,
-    );
-    store_level(count, answer)
+        count,
+        |book, rows, scratch, side, out| {
+            reconstructor_reads_queue::level_queue(book, rows, scratch, side, at, out)
+        },
+    )
 }

@@ -5,9 +5,7 @@ ghost use Rattle.std.specs.Prelude.{◌≡◌};
 ghost use Rattle.host_level_stops.specs.Stops.{level_called};
 ghost use Rattle.host_levels.specs.Levels.{profile_call, l2_call};
 
-use host_answers_levels::store_level;
-use host_level_stops::level_stop;
-use host_words::{load_book, load_side};
+use host_level_stops::level_read;
 
 pub fn priority_profile(
     state: &[u64],
@@ -19,19 +17,15 @@ pub fn priority_profile(
 ) -> u64
     ensures { level_called result scratch.new out.new count.new ≡ profile_call state.now rows.now scratch.old side out.old count.old }
 {
-    let stop = level_stop(state, rows, scratch.len(), side, count.len());
-    if stop != 0 {
-        return stop;
-    }
-    let book = load_book(state);
-    let answer = reconstructor_reads_levels::priority_profile(
-        book,
+    level_read(
+        state,
         rows,
         scratch,
-        load_side(side),
+        side,
         out,
-    );
-    store_level(count, answer)
+        count,
+        reconstructor_reads_levels::priority_profile,
+    )
 }
 
 pub fn l2(
@@ -44,11 +38,13 @@ pub fn l2(
 ) -> u64
     ensures { level_called result scratch.new out.new count.new ≡ l2_call state.now rows.now scratch.old side out.old count.old }
 {
-    let stop = level_stop(state, rows, scratch.len(), side, count.len());
-    if stop != 0 {
-        return stop;
-    }
-    let book = load_book(state);
-    let answer = reconstructor_reads_levels::l2(book, rows, scratch, load_side(side), out);
-    store_level(count, answer)
+    level_read(
+        state,
+        rows,
+        scratch,
+        side,
+        out,
+        count,
+        reconstructor_reads_levels::l2,
+    )
 }

@@ -9,12 +9,10 @@ ghost use Rattle.reconstructor_reads.specs.Numbers.{stale_told};
 ghost use Rattle.reconstructor_reads.specs.LevelReads.{too_small, shows, stale_read};
 ghost use Rattle.host_answers.specs.Answers.{lastly};
 ghost use Rattle.host_level_stops.specs.Stops.{level_called};
-ghost use Rattle.host_stale_levels.specs.Stale.{stale_stop, stale_call};
+ghost use Rattle.host_stale_levels.specs.Stale.{stale_call};
 
 use host_answers_levels::store_stale;
-use host_boundary::boundary;
-use host_word_tests::{no_bit, scratch_short};
-use host_words::{load_book, load_side};
+use host_level_stops::level_call;
 use reconstructor_state::{BookReconstructor, Status, VenueRules};
 
 // The number of a read of an invalid book whose answer has no room: 7, or 256 where the book is not invalid, unless it is turned away before. `short` says that its scratch is too short.
@@ -33,21 +31,6 @@ fn unwritten_stale(book: BookReconstructor, rows: &[u64], short: bool) -> u64
     }
 }
 
-// What stands in the way of the read: its number, or 0. Without a word for the number of entries something always does.
-fn stale_stop(state: &[u64], rows: &[u64], scratch: usize, side: u64, count: usize) -> u64
-    ensures { result ≡ stale_stop state.now rows.now scratch side count }
-{
-    let less = scratch_short(state, scratch);
-    let stop = boundary(state, rows.len(), less, false, no_bit(side));
-    if stop != 0 {
-        return stop;
-    }
-    if count > 0 {
-        return 0;
-    }
-    unwritten_stale(load_book(state), rows, less)
-}
-
 pub fn stale_l2(
     state: &[u64],
     rows: &[u64],
@@ -58,11 +41,15 @@ pub fn stale_l2(
 ) -> u64
     ensures { level_called result scratch.new out.new count.new ≡ stale_call state.now rows.now scratch.old side out.old count.old }
 {
-    let stop = stale_stop(state, rows, scratch.len(), side, count.len());
-    if stop != 0 {
-        return stop;
-    }
-    let book = load_book(state);
-    let answer = reconstructor_reads_stale::stale_l2(book, rows, scratch, load_side(side), out);
-    store_stale(count, answer)
+    level_call(
+        state,
+        rows,
+        scratch,
+        side,
+        out,
+        count,
+        unwritten_stale,
+        reconstructor_reads_stale::stale_l2,
+        store_stale,
+    )
 }
