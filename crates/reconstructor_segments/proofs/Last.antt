@@ -1,13 +1,13 @@
 -- The last of a list's first n records, read and rewritten.
 -- Assumes nothing.
-use Prim.Native.Nat.{ℕ, zero, suc, ◌-◌, ◌≤◌, ◌<◌, ◌^◌}
+use Prim.Native.Nat.{ℕ, zero, suc, ◌-◌, ◌≤◌, ◌<◌}
 use mathlib.Core.Path.{◌≡◌, refl, ap}
 use mathlib.Core.List.{List, ◌++◌}
 use native.Mathlib.Omega.{arith}
-use lib.ListN.{length, set, length-set, get_or-append, get_or-eq_default}
-use lib.Seq.{set-get_or, set_out}
+use lib.ListN.{length, set, length-set, get_or-append}
+use lib.Seq.{set-get_or}
 use Rattle.reconstructor_segments.specs.declared.Segment.{Segment}
-use Rattle.reconstructor_segments.specs.Segments.{no_segment, segment_at, last_segment, relast, last_place}
+use Rattle.reconstructor_segments.specs.Segments.{no_segment, segment_at, last_segment, relast}
 
 pub length-relast : (sg : List Segment) (n : ℕ) (g : Segment) → length (relast sg n g) ≡ length sg
 length-relast sg zero g = refl
@@ -31,17 +31,3 @@ relast_at sg (suc n) g h = ap (λ (i : ℕ). set sg i g) (omega arith)
 pub last-front : (a b : List Segment) (n : ℕ) → n ≤ length a → last_segment (a ++ b) n ≡ last_segment a n
 last-front a b zero h = refl
 last-front a b (suc n) h = get_or-append a b no_segment n (omega arith)
-
--- by its place, in a list that a machine can hold
-pub place-last : (n : ℕ) → (n ≡ 0 → ⊥) → n - 1 ≡ last_place n
-place-last zero h = absurd (h refl)
-place-last (suc n) h = omega arith
-
-module _ (sg : List Segment) (few : length sg < 2 ^ 64) where
-  pub last_placed : (n : ℕ) → segment_at sg (last_place n) ≡ last_segment sg n
-  last_placed zero = get_or-eq_default sg no_segment (omega (arith, few))
-  last_placed (suc n) = refl
-
-  pub relast_placed : (n : ℕ) (g : Segment) → set sg (last_place n) g ≡ relast sg n g
-  relast_placed zero g = set_out sg (last_place zero) g (omega (arith, few))
-  relast_placed (suc n) g = refl
