@@ -9,7 +9,7 @@ ghost use Rattle.reconstructor_view.specs.Numbers.{sequence_told};
 ghost use Rattle.host_answers.specs.Answers.{answered, given, lastly};
 
 use laws::put;
-use reconstructor_state::{BookReconstructor, VenueRules};
+use reconstructor_state::{BookReconstructor, Ceiling};
 
 // A success's values: 7, and nothing written, where they have no room.
 pub fn give(out: &mut [u64], values: &[u64]) -> u64
@@ -26,7 +26,7 @@ pub fn give(out: &mut [u64], values: &[u64]) -> u64
 pub fn unwritten(book: BookReconstructor, rows: &[u64], short: bool) -> u64
     ensures { result ≡ lastly (sequence_told (sequence_of (view_refusal_of ceiling book (memory rows.now) short) (last_of book.status))).number }
 {
-    match reconstructor_view::valid_book(VenueRules::CEILING, book, rows, short) {
+    match reconstructor_view::valid_book(Ceiling::VENUE, book, rows, short) {
         Ok(_) => 7,
         Err(why) => why.number(),
     }

@@ -11,7 +11,7 @@ use host_records::RECORD_WORDS;
 use host_word_tests::list_short;
 use host_words::load_book;
 use piece::MESSAGE_WORDS;
-use reconstructor_state::VenueRules;
+use reconstructor_state::Ceiling;
 
 // Up to so many rows the index of a run has few places, past that many.
 const FEW_ROWS: usize = 256;
@@ -33,7 +33,7 @@ pub fn apply_all(
         return stop;
     }
     let book = load_book(state);
-    match reconstructor_checks::own_checks(VenueRules::CEILING, book, rows, lent) {
+    match reconstructor_checks::own_checks(Ceiling::VENUE, book, rows, lent) {
         Err(why) => why.number(),
         Ok(()) => {
             if answers.len() < messages.len() / MESSAGE_WORDS {

@@ -2,22 +2,20 @@
 #![tactic(auto)]
 
 ghost use Rattle.book.specs.Memory.{extent};
-ghost use Rattle.std.specs.Prelude.{◌≡◌, ◌≤◌};
-ghost use Rattle.book.specs.Rows.{most_rows};
+ghost use Rattle.std.specs.Prelude.{◌≡◌};
 ghost use Rattle.host_boundary.specs.Boundary.{no_book_number, boundary, own_boundary};
 
 use host_word_tests::no_book;
 use host_words::{STATE_WORDS, load_rules};
-use reconstructor_state::VenueRules;
+use reconstructor_state::{Ceiling, VenueRules};
 
 // An input of fixed size is lent shorter than it is.
 pub const SHORT_INPUT: u64 = 768;
 
-fn no_book_number(top: usize, rules: VenueRules, rows: usize, less: bool) -> u64
-    requires { top ≤ most_rows }
-    ensures { result ≡ no_book_number top rules (extent rows) less }
+fn no_book_number(top: Ceiling, rules: VenueRules, rows: usize, less: bool) -> u64
+    ensures { result ≡ no_book_number top.limit rules (extent rows) less }
 {
-    if reconstructor_checks::over_ceiling(top, rules) {
+    if reconstructor_checks::over_ceiling(top.limit, rules) {
         return 1;
     }
     if (rows < book::ROW_WORDS * rules.max_orders) | less {
@@ -40,7 +38,7 @@ pub fn boundary(state: &[u64], rows: usize, less: bool, short: bool, wrong: bool
     if !no_book(state) {
         return 0;
     }
-    no_book_number(VenueRules::CEILING, load_rules(state), rows, less)
+    no_book_number(Ceiling::VENUE, load_rules(state), rows, less)
 }
 
 // The same of a call that is lent the state alone.

@@ -13,13 +13,13 @@ ghost use Rattle.host_stale_levels.specs.Stale.{stale_call};
 
 use host_answers_levels::store_stale;
 use host_level_stops::level_call;
-use reconstructor_state::{BookReconstructor, Status, VenueRules};
+use reconstructor_state::{BookReconstructor, Ceiling, Status};
 
 // The number of a read of an invalid book whose answer has no room: 7, or 256 where the book is not invalid, unless it is turned away before. `short` says that its scratch is too short.
 fn unwritten_stale(book: BookReconstructor, rows: &[u64], short: bool) -> u64
     ensures { result ≡ lastly (stale_told (stale_read (read_refusal_of ceiling book (memory rows.now) short) book.status (shows (Err too_small) [] []) [] []).answer).number }
 {
-    match reconstructor_view::read_checks(VenueRules::CEILING, book, rows, short) {
+    match reconstructor_view::read_checks(Ceiling::VENUE, book, rows, short) {
         Err(why) => why.number(),
         Ok(()) => {
             match book.status {

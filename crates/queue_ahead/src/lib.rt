@@ -2,21 +2,21 @@
 #![tactic(auto)]
 
 ghost use Rattle.std.specs.Prelude.{◌≡◌, false, not, ◌*◌, ◌≤◌, length};
-ghost use Rattle.book.specs.Rows.{Lent, most_rows};
-ghost use Rattle.book.specs.Memory.{memory, orders_of};
-ghost use Rattle.book.specs.Broken.{some_row_broken};
+ghost use Rattle.book.specs.Memory.{memory};
+ghost use Rattle.book.specs.Lending.{rows_in};
 ghost use Rattle.reconstructor_segments.specs.Segments.{same_segment};
 ghost use Rattle.reconstructor_state.specs.State.{ceiling, segment_of};
 ghost use Rattle.queue.specs.Ahead.{ahead_entry_words};
 ghost use Rattle.queue.specs.Estimates.{list_bound, list_short, tallied, list_ahead, own_ahead, anchor_ahead, volume_ahead};
 ghost use Rattle.queue.specs.Numbers.{ahead_told};
 
+use book::{LentRows, SoundRows};
 use book_queue::AHEAD_ENTRY_WORDS;
 use message::{L3Side, OrderId};
 use queue::{Anchor, Assumption, QueueAhead, QueueError, QueueEstimate, Tally};
 use queue_place::{loses_place, place_unknown, resting_since};
 use queue_tally::{tally_before, tally_list};
-use reconstructor_state::{BookReconstructor, SizeDecrease, VenueRules};
+use reconstructor_state::{BookReconstructor, Ceiling, SizeDecrease};
 
 // The most orders of an ahead-list, whatever a call's ceiling is: above it is number 8.
 pub const LIST_BOUND: usize = 4096;
@@ -62,19 +62,17 @@ fn list_short(anchor: Anchor, words: usize) -> bool
 
 // The volume ahead of an estimate with a list, once 8 and 50 are out.
 fn ahead_of_list(
-    book: BookReconstructor,
-    rows: &[u64],
+    rule: SizeDecrease,
+    sound: SoundRows<'_>,
     ahead: &[u64],
     orders: usize,
     created_at: u64,
     last_seq: u64,
 ) -> Result<QueueAhead, QueueError>
-    requires lent { Lent rows.now book.rows × (some_row_broken (orders_of (memory rows.now) book.rows) ≡ false) }
-    requires orders_in_bounds { (ahead_entry_words * orders ≤ length ahead.now) × (orders ≤ list_bound) }
-    ensures { result ≡ list_ahead book.rules.size_decrease last_seq orders created_at ahead.now (orders_of (memory rows.now) book.rows) }
+    requires { (ahead_entry_words * orders ≤ length ahead.now) × (orders ≤ list_bound) }
+    ensures { result ≡ list_ahead rule last_seq orders created_at ahead.now (rows_in sound.entry.rows) }
 {
-    let rule = book.rules.size_decrease;
-    let t = tally_list(rows, book.rows, ahead, orders, created_at);
+    let t = tally_list(sound, ahead, orders, created_at);
     tallied(
         rule,
         last_seq,
@@ -86,26 +84,23 @@ fn ahead_of_list(
 
 // The volume ahead of our own order at a side and price: 52 and 51 first.
 fn ahead_of_own(
-    book: BookReconstructor,
-    rows: &[u64],
+    rule: SizeDecrease,
+    sound: SoundRows<'_>,
     side: L3Side,
     price: u64,
     own: OrderId,
     entered_at: u64,
     last_seq: u64,
 ) -> Result<QueueAhead, QueueError>
-    requires { Lent rows.now book.rows × (some_row_broken (orders_of (memory rows.now) book.rows) ≡ false) }
-    ensures { result ≡ own_ahead book.rules.size_decrease last_seq side price own entered_at (orders_of (memory rows.now) book.rows) }
+    ensures { result ≡ own_ahead rule last_seq side price own entered_at (rows_in sound.entry.rows) }
 {
-    let rule = book.rules.size_decrease;
-    let n = book.rows;
-    let Some(o) = resting_since(rows, n, own, entered_at) else {
+    let Some(o) = resting_since(sound.rows, own, entered_at) else {
         return Err(QueueError::NotResting);
     };
     if place_unknown(rule, o) {
         return Err(QueueError::PriorityUnknown);
     }
-    let t = tally_before(rows, n, side, price, own, entered_at);
+    let t = tally_before(sound, side, price, own, entered_at);
     tallied(
         rule,
         last_seq,
@@ -124,27 +119,26 @@ fn is_stale(book: BookReconstructor, estimate: QueueEstimate) -> bool
 
 // The volume ahead of an estimate's order, once 8 and 50 are out.
 fn anchor_ahead(
-    book: BookReconstructor,
-    rows: &[u64],
+    rule: SizeDecrease,
+    sound: SoundRows<'_>,
     estimate: QueueEstimate,
     ahead: &[u64],
     last_seq: u64,
 ) -> Result<QueueAhead, QueueError>
-    requires lent { Lent rows.now book.rows × (some_row_broken (orders_of (memory rows.now) book.rows) ≡ false) }
-    requires ahead_value { list_short estimate.anchor (length ahead.now) ≡ false }
-    ensures { result ≡ anchor_ahead book.rules.size_decrease last_seq estimate estimate.anchor ahead.now (orders_of (memory rows.now) book.rows) }
+    requires { list_short estimate.anchor (length ahead.now) ≡ false }
+    ensures { result ≡ anchor_ahead rule last_seq estimate estimate.anchor ahead.now (rows_in sound.entry.rows) }
 {
     let at = message::amount::size_of(estimate.price);
     match estimate.anchor {
         Anchor::Hypothetical { orders, created_at } => {
-            ahead_of_list(book, rows, ahead, orders, created_at, last_seq)
+            ahead_of_list(rule, sound, ahead, orders, created_at, last_seq)
         }
         Anchor::Own {
             order_id,
             entered_at,
         } => ahead_of_own(
-            book,
-            rows,
+            rule,
+            sound,
             estimate.side,
             at,
             order_id,
@@ -165,18 +159,17 @@ pub fn volume_ahead(
     ensures value { result ≡ volume_ahead ceiling book (memory rows.now) estimate ahead.now }
     ensures told { ahead_told result ≡ ahead_told (volume_ahead ceiling book (memory rows.now) estimate ahead.now) }
 {
-    volume_ahead_under(VenueRules::CEILING, book, rows, estimate, ahead)
+    volume_ahead_under(Ceiling::VENUE, book, rows, estimate, ahead)
 }
 
 pub fn volume_ahead_under(
-    top: usize,
+    top: Ceiling,
     book: BookReconstructor,
     rows: &[u64],
     estimate: QueueEstimate,
     ahead: &[u64],
 ) -> Result<QueueAhead, QueueError>
-    requires { top ≤ most_rows }
-    ensures { result ≡ volume_ahead top book (memory rows.now) estimate ahead.now }
+    ensures { result ≡ volume_ahead top.limit book (memory rows.now) estimate ahead.now }
 {
     let last_seq = reconstructor_view::valid_book(top, book, rows, false)?;
     if list_short(estimate.anchor, ahead.len()) {
@@ -185,5 +178,10 @@ pub fn volume_ahead_under(
     if is_stale(book, estimate) {
         return Err(QueueError::StaleEstimate);
     }
-    anchor_ahead(book, rows, estimate, ahead, last_seq)
+    let lent = LentRows {
+        words: rows,
+        count: book.rows,
+    };
+    let sound = SoundRows { rows: lent };
+    anchor_ahead(book.rules.size_decrease, sound, estimate, ahead, last_seq)
 }

@@ -3,17 +3,16 @@
 
 ghost use Rattle.std.specs.Prelude.{◌≡◌, ◌≤◌};
 ghost use Rattle.message.specs.Values.{amount_limit};
-ghost use Rattle.book.specs.Rows.{most_rows};
 ghost use Rattle.book.specs.Memory.{memory};
 ghost use Rattle.reconstructor_state.specs.State.{ceiling};
 ghost use Rattle.queue.specs.Estimates.{own_estimate, queue_estimate_own};
 ghost use Rattle.queue.specs.Numbers.{estimate_told};
 
-use book::Resting;
+use book::{LentRows, Resting};
 use message::OrderId;
 use queue::{Anchor, QueueError, QueueEstimate};
 use queue_place::{place_unknown, resting};
-use reconstructor_state::{BookReconstructor, VenueRules};
+use reconstructor_state::{BookReconstructor, Ceiling};
 
 // Our own order, as an estimate.
 fn own_estimate(book: BookReconstructor, id: OrderId, o: Resting) -> QueueEstimate
@@ -40,21 +39,24 @@ pub fn queue_estimate_own(
     ensures value { result ≡ queue_estimate_own ceiling book (memory rows.now) order_id }
     ensures told { estimate_told result ≡ estimate_told (queue_estimate_own ceiling book (memory rows.now) order_id) }
 {
-    queue_estimate_own_under(VenueRules::CEILING, book, rows, order_id)
+    queue_estimate_own_under(Ceiling::VENUE, book, rows, order_id)
 }
 
 pub fn queue_estimate_own_under(
-    top: usize,
+    top: Ceiling,
     book: BookReconstructor,
     rows: &[u64],
     order_id: OrderId,
 ) -> Result<QueueEstimate, QueueError>
-    requires { top ≤ most_rows }
-    ensures { result ≡ queue_estimate_own top book (memory rows.now) order_id }
+    ensures { result ≡ queue_estimate_own top.limit book (memory rows.now) order_id }
 {
     let rule = book.rules.size_decrease;
     let _last_seq = reconstructor_view::valid_book(top, book, rows, false)?;
-    let Some(order) = resting(rows, book.rows, order_id) else {
+    let lent = LentRows {
+        words: rows,
+        count: book.rows,
+    };
+    let Some(order) = resting(lent, order_id) else {
         return Err(QueueError::NotResting);
     };
     if place_unknown(rule, order) {

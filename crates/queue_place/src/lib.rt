@@ -2,12 +2,11 @@
 #![tactic(auto)]
 
 ghost use Rattle.std.specs.Prelude.{◌≡◌};
-ghost use Rattle.book.specs.Rows.{Lent};
-ghost use Rattle.book.specs.Memory.{memory, orders_of};
+ghost use Rattle.book.specs.Lending.{rows_in};
 ghost use Rattle.queue.specs.Ahead.{row_with, entered_at as Ahead·entered_at};
 ghost use Rattle.queue.specs.Estimates.{loses_place, place_unknown};
 
-use book::Resting;
+use book::{LentRows, Resting};
 use message::OrderId;
 use reconstructor_state::SizeDecrease;
 
@@ -29,20 +28,18 @@ pub fn place_unknown(rule: SizeDecrease, o: Resting) -> bool
 }
 
 // The row of an id.
-pub fn resting(rows: &[u64], n: usize, id: OrderId) -> Option<Resting>
-    requires { Lent rows.now n }
-    ensures { result ≡ row_with id (orders_of (memory rows.now) n) }
+pub fn resting(rows: LentRows<'_>, id: OrderId) -> Option<Resting>
+    ensures { result ≡ row_with id (rows_in rows.entry) }
 {
-    match book_search::find(rows, n, id) {
-        Some(i) => Some(book::get_row(rows, i)),
+    match book_search::find(rows, id) {
+        Some(i) => Some(rows.get(i)),
         None => None,
     }
 }
 
 // The row of an id, if it entered there: an id that is used again names another order.
-pub fn resting_since(rows: &[u64], n: usize, id: OrderId, entered_at: u64) -> Option<Resting>
-    requires { Lent rows.now n }
-    ensures { result ≡ Ahead·entered_at entered_at (row_with id (orders_of (memory rows.now) n)) }
+pub fn resting_since(rows: LentRows<'_>, id: OrderId, entered_at: u64) -> Option<Resting>
+    ensures { result ≡ Ahead·entered_at entered_at (row_with id (rows_in rows.entry)) }
 {
-    resting(rows, n, id).filter(|o| o.entered_at == entered_at)
+    resting(rows, id).filter(|o| o.entered_at == entered_at)
 }

@@ -1,19 +1,18 @@
 // Sums over the orders ahead of an own order: what an ahead-list's entries and the rows before our own add up to.
 #![tactic(auto)]
 
-ghost use Rattle.std.specs.Prelude.{◌≡◌, false, cond, ◌*◌, ◌≤◌, ltb, length};
+ghost use Rattle.std.specs.Prelude.{◌≡◌, cond, ◌*◌, ◌≤◌, ltb, length};
 ghost use Rattle.message.specs.Same.{same_id};
 ghost use Rattle.message.specs.Values.{amount_limit};
 ghost use Rattle.book.specs.Line.{same_level};
-ghost use Rattle.book.specs.Rows.{Lent, side_of, id_of};
-ghost use Rattle.book.specs.Memory.{memory, orders_of};
-ghost use Rattle.book.specs.Broken.{some_row_broken};
+ghost use Rattle.book.specs.Rows.{side_of, id_of};
+ghost use Rattle.book.specs.Lending.{rows_in};
 ghost use Rattle.book_queue.specs.Queue.{rows_at};
 ghost use Rattle.queue.specs.Ahead.{row_with, entered_at as Ahead·entered_at, ahead_entry_words, entries_from, still_ahead, before, decreased_after, tally_of};
 ghost use Rattle.queue.specs.Tallies.{no_tally, tally_with, tally_joined, Small};
 ghost use Rattle.queue.specs.Estimates.{list_bound};
 
-use book::Resting;
+use book::{Resting, SoundRows};
 use book_queue::AHEAD_ENTRY_WORDS;
 use message::{L3Side, OrderId};
 use queue::Tally;
@@ -62,22 +61,20 @@ fn tally_with(since: u64, o: Resting, t: Tally) -> Tally
 }
 
 // A tally with the order of an ahead-list's entry, while it rests.
-fn tally_entry(rows: &[u64], n: usize, id: OrderId, entered_at: u64, since: u64, t: Tally) -> Tally
-    requires lent { Lent rows.now n × (some_row_broken (orders_of (memory rows.now) n) ≡ false) }
-    requires small { Small t }
-    ensures { result ≡ tally_joined since (Ahead·entered_at entered_at (row_with id (orders_of (memory rows.now) n))) t }
+fn tally_entry(sound: SoundRows<'_>, id: OrderId, entered_at: u64, since: u64, t: Tally) -> Tally
+    requires { Small t }
+    ensures { result ≡ tally_joined since (Ahead·entered_at entered_at (row_with id (rows_in sound.entry.rows))) t }
 {
-    match queue_place::resting_since(rows, n, id, entered_at) {
+    match queue_place::resting_since(sound.rows, id, entered_at) {
         Some(o) => tally_with(since, o, t),
         None => t,
     }
 }
 
 // The tally of `orders` entries of an ahead-list.
-pub fn tally_list(rows: &[u64], n: usize, ahead: &[u64], orders: usize, since: u64) -> Tally
-    requires lent { Lent rows.now n × (some_row_broken (orders_of (memory rows.now) n) ≡ false) }
-    requires orders_in_bounds { (ahead_entry_words * orders ≤ length ahead.now) × (orders ≤ list_bound) }
-    ensures { result ≡ tally_of since (still_ahead (orders_of (memory rows.now) n) (entries_from ahead.now 0 orders)) }
+pub fn tally_list(sound: SoundRows<'_>, ahead: &[u64], orders: usize, since: u64) -> Tally
+    requires { (ahead_entry_words * orders ≤ length ahead.now) × (orders ≤ list_bound) }
+    ensures { result ≡ tally_of since (still_ahead (rows_in sound.entry.rows) (entries_from ahead.now 0 orders)) }
 {
     let mut t = no_tally();
     for i in (0..orders).rev() {
@@ -86,7 +83,7 @@ pub fn tally_list(rows: &[u64], n: usize, ahead: &[u64], orders: usize, since: u
             high: ahead[at],
             low: ahead[at + 1],
         };
-        t = tally_entry(rows, n, id, ahead[at + 2], since, t);
+        t = tally_entry(sound, id, ahead[at + 2], since, t);
     }
     t
 }
@@ -107,19 +104,18 @@ fn tally_row(o: Resting, side: L3Side, price: u64, own: OrderId, since: u64, t: 
 
 // The tally of the orders at a side and price before our own.
 pub fn tally_before(
-    rows: &[u64],
-    n: usize,
+    sound: SoundRows<'_>,
     side: L3Side,
     price: u64,
     own: OrderId,
     since: u64,
 ) -> Tally
-    requires { Lent rows.now n × (some_row_broken (orders_of (memory rows.now) n) ≡ false) }
-    ensures { result ≡ tally_of since (before own (rows_at side price (orders_of (memory rows.now) n))) }
+    ensures { result ≡ tally_of since (before own (rows_at side price (rows_in sound.entry.rows))) }
 {
+    let rows = sound.rows;
     let mut t = no_tally();
-    for i in (0..n).rev() {
-        t = tally_row(book::get_row(rows, i), side, price, own, since, t);
+    for i in (0..rows.count).rev() {
+        t = tally_row(rows.get(i), side, price, own, since, t);
     }
     t
 }

@@ -2,8 +2,7 @@
 // has our ceiling.
 #![tactic(auto)]
 
-ghost use Rattle.std.specs.Prelude.{◌≡◌, ◌≤◌};
-ghost use Rattle.book.specs.Rows.{most_rows};
+ghost use Rattle.std.specs.Prelude.{◌≡◌};
 ghost use Rattle.book.specs.Memory.{memory};
 ghost use Rattle.reconstructor_state.specs.State.{ceiling};
 ghost use Rattle.reconstructor.specs.Applied.{worked, applied_to};
@@ -14,19 +13,18 @@ use reconstructor_answers::ApplyError;
 use reconstructor_apply_parts::{refused, work_of};
 use reconstructor_apply_trusted::apply_trusted;
 use reconstructor_segments::Segment;
-use reconstructor_state::{BookReconstructor, VenueRules};
+use reconstructor_state::{BookReconstructor, Ceiling};
 
 // `apply` under a ceiling, with the last segment's record by value, of a list of `lent` records.
 pub fn apply_under(
-    top: usize,
+    top: Ceiling,
     book: BookReconstructor,
     rows: &mut [u64],
     lent: usize,
     last: Segment,
     message: L3Message,
 ) -> Work
-    requires { top ≤ most_rows }
-    ensures { worked result (memory rows.new) ≡ applied_to top book (memory rows.old) lent last message }
+    ensures { worked result (memory rows.new) ≡ applied_to top.limit book (memory rows.old) lent last message }
 {
     match reconstructor_checks::own_checks(top, book, rows, lent) {
         Err(why) => work_of(refused(book, ApplyError::Unusable(why)), last),
@@ -44,5 +42,5 @@ pub fn apply_by_value(
 ) -> Work
     ensures { worked result (memory rows.new) ≡ applied_to ceiling book (memory rows.old) lent last message }
 {
-    apply_under(VenueRules::CEILING, book, rows, lent, last, message)
+    apply_under(Ceiling::VENUE, book, rows, lent, last, message)
 }

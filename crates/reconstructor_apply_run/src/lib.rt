@@ -9,6 +9,7 @@ ghost use Rattle.reconstructor_checks.specs.StateChecks.{Trusted};
 ghost use Rattle.reconstructor.specs.Applied.{worked};
 ghost use Rattle.reconstructor.specs.Inner.{trusted_to};
 
+use book::LentRows;
 use book_index::Bounds;
 use book_index_upkeep::{foresee, note};
 use message::L3Message;
@@ -39,7 +40,11 @@ pub fn apply_in_run(
     ensures indexes { Indexed places.new result.bounds (orders_of (memory rows.new) result.work.book.rows) }
 {
     let n = book.rows;
-    let next = foresee(rows, n, bounds, message.event);
+    let lent = LentRows {
+        words: rows,
+        count: n,
+    };
+    let next = foresee(lent, bounds, message.event);
     let work = apply_indexed(book, rows, last, places, next, message);
     note(places, n, message.event);
     RunWork { work, bounds: next }

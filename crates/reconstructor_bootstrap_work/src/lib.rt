@@ -2,8 +2,7 @@
 // segment's record; `bootstrap_by_value` has our ceiling.
 #![tactic(auto)]
 
-ghost use Rattle.std.specs.Prelude.{◌≡◌, ◌≤◌};
-ghost use Rattle.book.specs.Rows.{most_rows};
+ghost use Rattle.std.specs.Prelude.{◌≡◌};
 ghost use Rattle.book.specs.Memory.{memory};
 ghost use Rattle.reconstructor_state.specs.State.{ceiling};
 ghost use Rattle.reconstructor_bootstrap.specs.Bootstrap.{booted, bootstrapped_to};
@@ -12,19 +11,18 @@ use reconstructor_bootstrap::{BootstrapError, Work};
 use reconstructor_bootstrap_parts::refused;
 use reconstructor_bootstrap_usable::bootstrap_usable;
 use reconstructor_segments::Segment;
-use reconstructor_state::{BookReconstructor, VenueRules};
+use reconstructor_state::{BookReconstructor, Ceiling};
 
 // `bootstrap` under a ceiling, with the last segment's record by value, of a list of `lent` records.
 pub fn bootstrap_under(
-    top: usize,
+    top: Ceiling,
     book: BookReconstructor,
     rows: &mut [u64],
     lent: usize,
     last: Segment,
     bytes: &[u8],
 ) -> Work
-    requires { top ≤ most_rows }
-    ensures { booted result (memory rows.new) ≡ bootstrapped_to top book (memory rows.old) lent last bytes.now }
+    ensures { booted result (memory rows.new) ≡ bootstrapped_to top.limit book (memory rows.old) lent last bytes.now }
 {
     let checked = reconstructor_checks::own_checks(top, book, rows, lent);
     if let Err(why) = checked {
@@ -46,5 +44,5 @@ pub fn bootstrap_by_value(
 ) -> Work
     ensures { booted result (memory rows.new) ≡ bootstrapped_to ceiling book (memory rows.old) lent last bytes.now }
 {
-    bootstrap_under(VenueRules::CEILING, book, rows, lent, last, bytes)
+    bootstrap_under(Ceiling::VENUE, book, rows, lent, last, bytes)
 }

@@ -7,7 +7,7 @@ ghost use Rattle.book.specs.Memory.{memory, extent_of};
 ghost use Rattle.reconstructor_checks.specs.StateChecks.{over_ceiling, memory_short, unsettled, broken, book_refusal, checked};
 
 use reconstructor_answers::StateError;
-use reconstructor_state::{BookReconstructor, Status, VenueRules};
+use reconstructor_state::{BookReconstructor, Ceiling, Status, VenueRules};
 
 // Number 1, under a ceiling.
 pub fn over_ceiling(top: usize, rules: VenueRules) -> bool
@@ -52,15 +52,14 @@ pub fn broken(book: BookReconstructor, rows: &[u64]) -> bool
 
 // 1, 2 and 3 of a call under a ceiling, which is lent rows and a segment list of `lent` records.
 pub fn own_checks(
-    top: usize,
+    top: Ceiling,
     book: BookReconstructor,
     rows: &[u64],
     lent: usize,
 ) -> Result<(), StateError>
-    requires { top ≤ most_rows }
-    ensures { result ≡ checked (book_refusal top book (memory rows.now) lent) }
+    ensures { result ≡ checked (book_refusal top.limit book (memory rows.now) lent) }
 {
-    if over_ceiling(top, book.rules) {
+    if over_ceiling(top.limit, book.rules) {
         return Err(StateError::LimitAboveCeiling);
     }
     if memory_short(book.rules, rows) | (lent < book.segments) {

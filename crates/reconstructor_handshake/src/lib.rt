@@ -1,7 +1,7 @@
 // The snapshot handshake: after an accepted snapshot, buffered messages are stepped one by one; those that the snapshot already has are dropped.
 #![tactic(auto)]
 
-ghost use Rattle.std.specs.Prelude.{◌≡◌, ◌≤◌};
+ghost use Rattle.std.specs.Prelude.{◌≡◌};
 ghost use Rattle.book.specs.Rows.{most_rows};
 ghost use Rattle.book.specs.Memory.{memory};
 ghost use Rattle.reconstructor_state.specs.State.{ceiling, segment_of};
@@ -16,7 +16,7 @@ use reconstructor_apply_trusted::apply_trusted;
 use reconstructor_counts::Counter;
 use reconstructor_handshake_rules::{applied_by, drops, ends};
 use reconstructor_segments::{Segment, SegmentName};
-use reconstructor_state::{BookReconstructor, VenueRules};
+use reconstructor_state::{BookReconstructor, Ceiling};
 
 // A handshake for one segment, with how many messages it applied. It hands itself back at each step.
 #[derive(Clone, Copy)]
@@ -170,15 +170,14 @@ impl Handshake {
     // A step under a ceiling, with the last segment's record by value, of a list of `lent` records.
     pub fn step_under(
         self,
-        top: usize,
+        top: Ceiling,
         book: BookReconstructor,
         rows: &mut [u64],
         lent: usize,
         last: Segment,
         message: L3Message,
     ) -> StepWork
-        requires { top ≤ most_rows }
-        ensures { step_worked result (memory rows.new) ≡ stepped_to top self book (memory rows.old) lent last message }
+        ensures { step_worked result (memory rows.new) ≡ stepped_to top.limit self book (memory rows.old) lent last message }
     {
         match reconstructor_checks::own_checks(top, book, rows, lent) {
             Err(why) => {
@@ -200,7 +199,7 @@ impl Handshake {
     ) -> StepWork
         ensures { step_worked result (memory rows.new) ≡ stepped_to ceiling self book (memory rows.old) lent last message }
     {
-        self.step_under(VenueRules::CEILING, book, rows, lent, last, message)
+        self.step_under(Ceiling::VENUE, book, rows, lent, last, message)
     }
 
     // Steps one buffered message: dropped if the snapshot already has it, else `apply` decides.

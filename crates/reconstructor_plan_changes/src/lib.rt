@@ -2,13 +2,12 @@
 #![tactic(auto)]
 
 ghost use Rattle.std.specs.Prelude.{◌≡◌};
-ghost use Rattle.book.specs.Rows.{Lent, rows_of, entry_of};
-ghost use Rattle.book_index.specs.Index.{Indexed};
+ghost use Rattle.book.specs.Rows.{entry_of};
 ghost use Rattle.reconstructor_plan.specs.Rules.{is_modify, change_differs, reason_of};
 ghost use Rattle.reconstructor_plan.specs.Plans.{PlansAt};
 
 use book::Resting;
-use book_index::Bounds;
+use book_index::IndexedRows;
 use message::{ChangeFields, ChangeReason, L3Event, L3Side, OrderId};
 use reconstructor_answers::{Discrepancy, MalformedReason};
 use reconstructor_counts::Counter;
@@ -43,25 +42,20 @@ fn reason_of(new_funds: Option<i64>) -> MalformedReason
 }
 
 pub fn plan_change(
-    rows: &[u64],
-    n: usize,
-    places: &[u16],
-    bounds: Option<Bounds>,
+    index: IndexedRows<'_>,
     seq: u64,
     order_id: OrderId,
     side: L3Side,
     reason: ChangeReason,
     fields: ChangeFields,
 ) -> Result<Plan, Discrepancy>
-    requires lent { Lent rows.now n }
-    requires indexed { Indexed places.now bounds (rows_of rows.now n) }
-    ensures { PlansAt rows.now n seq (L3Event.Change order_id side reason fields.price fields.old_size fields.new_size fields.old_price fields.new_price fields.new_funds) result }
+    ensures { PlansAt index.entry.rows.words.now index.entry.rows.count seq (L3Event.Change order_id side reason fields.price fields.old_size fields.new_size fields.old_price fields.new_price fields.new_funds) result }
 {
     // An order that is not on the book was received and never opened, such as a market order: no visible effect.
-    let Some(at) = book_index::find(rows, n, places, bounds, order_id) else {
+    let Some(at) = book_index::find(index, order_id) else {
         return Ok(Plan::NoEffect(Counter::OffBookChange));
     };
-    let order = book::get_row(rows, at);
+    let order = index.rows.get(at);
     if is_modify(reason) {
         return Err(Discrepancy::UnsupportedModification);
     }

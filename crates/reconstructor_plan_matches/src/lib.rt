@@ -2,13 +2,12 @@
 #![tactic(auto)]
 
 ghost use Rattle.std.specs.Prelude.{◌≡◌};
-ghost use Rattle.book.specs.Rows.{Lent, rows_of, entry_of};
-ghost use Rattle.book_index.specs.Index.{Indexed};
+ghost use Rattle.book.specs.Rows.{entry_of};
 ghost use Rattle.reconstructor_plan.specs.Rules.{match_differs};
 ghost use Rattle.reconstructor_plan.specs.Plans.{PlansAnywhere};
 
 use book::Resting;
-use book_index::Bounds;
+use book_index::IndexedRows;
 use message::{L3Event, L3Side, OrderId};
 use reconstructor_answers::Discrepancy;
 use reconstructor_counts::Counter;
@@ -23,28 +22,23 @@ fn match_differs(maker: Resting, side: L3Side, price: i64) -> bool
 }
 
 pub fn plan_match(
-    rows: &[u64],
-    n: usize,
-    places: &[u16],
-    bounds: Option<Bounds>,
+    index: IndexedRows<'_>,
     maker_id: OrderId,
     taker_id: OrderId,
     side: L3Side,
     price: i64,
     size: i64,
 ) -> Result<Plan, Discrepancy>
-    requires lent { Lent rows.now n }
-    requires indexed { Indexed places.now bounds (rows_of rows.now n) }
-    ensures { PlansAnywhere rows.now n (L3Event.Match maker_id taker_id side price size) result }
+    ensures { PlansAnywhere index.entry.rows.words.now index.entry.rows.count (L3Event.Match maker_id taker_id side price size) result }
 {
     // The taker is looked at first.
-    let None = book_index::find(rows, n, places, bounds, taker_id) else {
+    let None = book_index::find(index, taker_id) else {
         return Err(Discrepancy::TakerResting);
     };
-    let Some(at) = book_index::find(rows, n, places, bounds, maker_id) else {
+    let Some(at) = book_index::find(index, maker_id) else {
         return Err(Discrepancy::UnknownMaker);
     };
-    let maker = book::get_row(rows, at);
+    let maker = index.rows.get(at);
     if match_differs(maker, side, price) {
         return Err(Discrepancy::MatchMismatch);
     }

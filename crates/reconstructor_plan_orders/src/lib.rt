@@ -2,13 +2,13 @@
 #![tactic(auto)]
 
 ghost use Rattle.std.specs.Prelude.{◌≡◌};
-ghost use Rattle.book.specs.Rows.{Lent, rows_of, line_of, entry_of, observed_row};
-ghost use Rattle.book_index.specs.Index.{Indexed};
+ghost use Rattle.book.specs.Rows.{line_of, entry_of, observed_row};
+ghost use Rattle.book.specs.Lending.{rows_in};
 ghost use Rattle.reconstructor_plan.specs.Rules.{entry_for, no_room, done_differs};
 ghost use Rattle.reconstructor_plan.specs.Plans.{Ready, Plans, PlansAnywhere};
 
-use book::Resting;
-use book_index::Bounds;
+use book::{LentRows, Resting};
+use book_index::IndexedRows;
 use message::{DoneReason, L3Event, L3Side, OrderId};
 use reconstructor_answers::Discrepancy;
 use reconstructor_counts::Counter;
@@ -36,36 +36,31 @@ fn observed_row(id: OrderId, side: L3Side, price: u64, remaining: u64, seq: u64)
 }
 
 // Whether the price has no level and no level may be added. There are no more levels than rows; they are counted only where that does not tell.
-fn no_room(rules: VenueRules, rows: &[u64], n: usize, side: L3Side, price: u64) -> bool
-    requires { Lent rows.now n }
-    ensures { result ≡ no_room rules (line_of (rows_of rows.now n)) side price }
+fn no_room(rules: VenueRules, rows: LentRows<'_>, side: L3Side, price: u64) -> bool
+    ensures { result ≡ no_room rules (line_of (rows_in rows.entry)) side price }
 {
-    if n < rules.max_levels {
+    if rows.count < rules.max_levels {
         return false;
     }
-    if book_search::has_level(rows, n, side, price) {
+    if book_search::has_level(rows, side, price) {
         return false;
     }
-    book_keys::level_count(rows, n) >= rules.max_levels
+    book_keys::level_count(rows) >= rules.max_levels
 }
 
 pub fn plan_open(
     rules: VenueRules,
-    rows: &[u64],
-    n: usize,
-    places: &[u16],
-    bounds: Option<Bounds>,
+    index: IndexedRows<'_>,
     seq: u64,
     order_id: OrderId,
     side: L3Side,
     price: i64,
     remaining: i64,
 ) -> Result<Plan, Discrepancy>
-    requires ready { Ready rows.now n rules.max_orders }
-    requires indexed { Indexed places.now bounds (rows_of rows.now n) }
-    ensures { Plans rules rows.now n seq (L3Event.Open order_id side price remaining) result }
+    requires { Ready index.rows.words.now index.rows.count rules.max_orders }
+    ensures { Plans rules index.entry.rows.words.now index.entry.rows.count seq (L3Event.Open order_id side price remaining) result }
 {
-    let None = book_index::find(rows, n, places, bounds, order_id) else {
+    let None = book_index::find(index, order_id) else {
         return Err(Discrepancy::DuplicateOpen);
     };
     let p = message::amount::size_of(price);
@@ -76,13 +71,13 @@ pub fn plan_open(
     if q == 0 {
         return Err(Discrepancy::InvalidValue);
     }
-    if book_index::would_cross(rows, n, places, bounds, side, p) {
+    if book_index::would_cross(index, side, p) {
         return Err(Discrepancy::CrossedAfterApply);
     }
-    if n >= rules.max_orders {
+    if index.rows.count >= rules.max_orders {
         return Err(Discrepancy::CapacityExceeded);
     }
-    if no_room(rules, rows, n, side, p) {
+    if no_room(rules, index.rows, side, p) {
         return Err(Discrepancy::CapacityExceeded);
     }
     Ok(Plan::Insert(observed_row(order_id, side, p, q, seq)))
@@ -97,25 +92,20 @@ fn done_differs(order: Resting, side: L3Side, price: Option<i64>) -> bool
 }
 
 pub fn plan_done(
-    rows: &[u64],
-    n: usize,
-    places: &[u16],
-    bounds: Option<Bounds>,
+    index: IndexedRows<'_>,
     order_id: OrderId,
     side: L3Side,
     price: Option<i64>,
     reason: DoneReason,
     remaining: Option<i64>,
 ) -> Result<Plan, Discrepancy>
-    requires lent { Lent rows.now n }
-    requires indexed { Indexed places.now bounds (rows_of rows.now n) }
-    ensures { PlansAnywhere rows.now n (L3Event.Done order_id side price reason remaining) result }
+    ensures { PlansAnywhere index.entry.rows.words.now index.entry.rows.count (L3Event.Done order_id side price reason remaining) result }
 {
     // An order that is not on the book was received and never opened, or is already fully matched: no visible effect.
-    let Some(at) = book_index::find(rows, n, places, bounds, order_id) else {
+    let Some(at) = book_index::find(index, order_id) else {
         return Ok(Plan::NoEffect(Counter::OffBookDone));
     };
-    let order = book::get_row(rows, at);
+    let order = index.rows.get(at);
     if done_differs(order, side, price) {
         return Err(Discrepancy::DoneMismatch);
     }

@@ -1,16 +1,15 @@
 // What the level reads share: their errors, and the words that each shows. Scratch and output are written only once 7 is out.
 #![tactic(auto)]
 
-ghost use Rattle.std.specs.Prelude.{◌≡◌, false, ◌≤◌, length};
-ghost use Rattle.book.specs.Rows.{Lent};
-ghost use Rattle.book.specs.Memory.{memory, orders_of};
-ghost use Rattle.book.specs.Broken.{some_row_broken};
+ghost use Rattle.std.specs.Prelude.{◌≡◌, ◌≤◌, length};
+ghost use Rattle.book.specs.Lending.{rows_in};
 ghost use Rattle.reconstructor_reads.specs.declared.LevelError.TheVariants.{View};
 ghost use Rattle.reconstructor_reads.specs.declared.LevelError.TheVariants as levels;
 ghost use Rattle.reconstructor_reads.specs.declared.StaleError.TheVariants.{Unusable};
 ghost use Rattle.reconstructor_reads.specs.declared.StaleError.TheVariants as stales;
 ghost use Rattle.reconstructor_reads.specs.LevelReads.{profile_words, l2_words, queue_content, levels_content, shows, shown};
 
+use book::{LentRows, SoundRows};
 use book_queue::EntryForm;
 use message::L3Side;
 use reconstructor_answers::StateError;
@@ -73,45 +72,42 @@ impl From<OutputTooSmall> for StaleError {
 
 // Shows the orders at a side and price, and says how many there are.
 pub fn show_queue(
-    rows: &[u64],
-    n: usize,
+    rows: LentRows<'_>,
     scratch: &mut [u64],
     max_orders: usize,
     side: L3Side,
     price: u64,
     out: &mut [u64],
 ) -> Result<usize, OutputTooSmall>
-    requires { Lent rows.now n × (max_orders ≤ length scratch.old) }
-    ensures { shows result scratch.new out.new ≡ shown max_orders (queue_content side price (orders_of (memory rows.now) n)) scratch.old out.old }
+    requires { max_orders ≤ length scratch.old }
+    ensures { shows result scratch.new out.new ≡ shown max_orders (queue_content side price (rows_in rows.entry)) scratch.old out.old }
 {
-    let count = book_orders::order_count(rows, n, side, price);
+    let count = book_orders::order_count(rows, side, price);
     if out.len() < book_queue::QUEUE_WORDS * count {
         return Err(OutputTooSmall);
     }
-    book_orders::write_orders(rows, n, side, price, EntryForm::Queue, out);
+    book_orders::write_orders(rows, side, price, EntryForm::Queue, out);
     book_scratch::clear(scratch, max_orders);
     Ok(count)
 }
 
 // Shows the levels of a side, `width` words each, and says how many there are.
 pub fn show_levels(
-    rows: &[u64],
-    n: usize,
+    sound: SoundRows<'_>,
     scratch: &mut [u64],
     max_orders: usize,
     side: L3Side,
     width: usize,
     out: &mut [u64],
 ) -> Result<usize, OutputTooSmall>
-    requires lent { Lent rows.now n × (some_row_broken (orders_of (memory rows.now) n) ≡ false) }
-    requires n_le_max_orders { (n ≤ max_orders) × (max_orders ≤ length scratch.old) }
+    requires n_le_max_orders { (sound.rows.count ≤ max_orders) × (max_orders ≤ length scratch.old) }
     requires l2words_le_width { (l2_words ≤ width) × (width ≤ profile_words) }
-    ensures { shows result scratch.new out.new ≡ shown max_orders (levels_content width side (orders_of (memory rows.now) n)) scratch.old out.old }
+    ensures { shows result scratch.new out.new ≡ shown max_orders (levels_content width side (rows_in sound.entry.rows)) scratch.old out.old }
 {
-    let count = book_keys::side_level_count(rows, n, side);
+    let count = book_keys::side_level_count(sound.rows, side);
     if out.len() < width * count {
         return Err(OutputTooSmall);
     }
-    book_walk::write_levels(rows, n, side, width, scratch, max_orders, out);
+    book_walk::write_levels(sound, side, width, scratch, max_orders, out);
     Ok(count)
 }

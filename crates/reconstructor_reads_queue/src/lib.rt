@@ -1,16 +1,16 @@
 // The read of one level of a valid book: `level_queue`, worked `_under` a ceiling.
 #![tactic(auto)]
 
-ghost use Rattle.std.specs.Prelude.{◌≡◌, ◌≤◌};
-ghost use Rattle.book.specs.Rows.{most_rows};
+ghost use Rattle.std.specs.Prelude.{◌≡◌};
 ghost use Rattle.book.specs.Memory.{memory};
 ghost use Rattle.reconstructor_state.specs.State.{ceiling};
 ghost use Rattle.reconstructor_reads.specs.LevelReads.{leaves, level_queue};
 ghost use Rattle.reconstructor_reads.specs.Numbers.{level_told};
 
+use book::LentRows;
 use message::L3Side;
 use reconstructor_reads::{LevelError, show_queue};
-use reconstructor_state::{BookReconstructor, VenueRules};
+use reconstructor_state::{BookReconstructor, Ceiling};
 
 // The orders of one level in queue order: id high, id low, remaining, whether its open was observed, and where.
 pub fn level_queue(
@@ -24,11 +24,11 @@ pub fn level_queue(
     ensures out_after { leaves result scratch.new out.new ≡ level_queue ceiling book (memory rows.now) scratch.old side price out.old }
     ensures told { level_told result ≡ level_told (level_queue ceiling book (memory rows.now) scratch.old side price out.old).answer }
 {
-    level_queue_under(VenueRules::CEILING, book, rows, scratch, side, price, out)
+    level_queue_under(Ceiling::VENUE, book, rows, scratch, side, price, out)
 }
 
 pub fn level_queue_under(
-    top: usize,
+    top: Ceiling,
     book: BookReconstructor,
     rows: &[u64],
     scratch: &mut [u64],
@@ -36,12 +36,15 @@ pub fn level_queue_under(
     price: i64,
     out: &mut [u64],
 ) -> Result<usize, LevelError>
-    requires { top ≤ most_rows }
-    ensures { leaves result scratch.new out.new ≡ level_queue top book (memory rows.now) scratch.old side price out.old }
+    ensures { leaves result scratch.new out.new ≡ level_queue top.limit book (memory rows.now) scratch.old side price out.old }
 {
     let most = book.rules.max_orders;
     let at = message::amount::size_of(price);
     let _ = reconstructor_view::valid_book(top, book, rows, scratch.len() < most)?;
-    let count = show_queue(rows, book.rows, scratch, most, side, at, out)?;
+    let lent = LentRows {
+        words: rows,
+        count: book.rows,
+    };
+    let count = show_queue(lent, scratch, most, side, at, out)?;
     Ok(count)
 }

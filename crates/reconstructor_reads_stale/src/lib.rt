@@ -1,16 +1,16 @@
 // The read of an invalid book: `stale_l2`, worked `_under` a ceiling.
 #![tactic(auto)]
 
-ghost use Rattle.std.specs.Prelude.{◌≡◌, ◌≤◌};
-ghost use Rattle.book.specs.Rows.{most_rows};
+ghost use Rattle.std.specs.Prelude.{◌≡◌};
 ghost use Rattle.book.specs.Memory.{memory};
 ghost use Rattle.reconstructor_state.specs.State.{ceiling};
 ghost use Rattle.reconstructor_reads.specs.LevelReads.{leaves_stale, stale_l2};
 ghost use Rattle.reconstructor_reads.specs.Numbers.{stale_told};
 
+use book::{LentRows, SoundRows};
 use message::L3Side;
 use reconstructor_reads::{L2_WORDS, StaleError, show_levels};
-use reconstructor_state::{BookReconstructor, Status, VenueRules};
+use reconstructor_state::{BookReconstructor, Ceiling, Status};
 
 // The last good book's aggregated sizes while invalidated: a stale diagnostic, never a valid view. There is none of a book that is not invalid.
 pub fn stale_l2(
@@ -23,19 +23,18 @@ pub fn stale_l2(
     ensures out_after { leaves_stale result scratch.new out.new ≡ stale_l2 ceiling book (memory rows.now) scratch.old side out.old }
     ensures told { stale_told result ≡ stale_told (stale_l2 ceiling book (memory rows.now) scratch.old side out.old).answer }
 {
-    stale_l2_under(VenueRules::CEILING, book, rows, scratch, side, out)
+    stale_l2_under(Ceiling::VENUE, book, rows, scratch, side, out)
 }
 
 pub fn stale_l2_under(
-    top: usize,
+    top: Ceiling,
     book: BookReconstructor,
     rows: &[u64],
     scratch: &mut [u64],
     side: L3Side,
     out: &mut [u64],
 ) -> Result<Option<usize>, StaleError>
-    requires { top ≤ most_rows }
-    ensures { leaves_stale result scratch.new out.new ≡ stale_l2 top book (memory rows.now) scratch.old side out.old }
+    ensures { leaves_stale result scratch.new out.new ≡ stale_l2 top.limit book (memory rows.now) scratch.old side out.old }
 {
     let most = book.rules.max_orders;
     reconstructor_view::read_checks(top, book, rows, scratch.len() < most)?;
@@ -43,7 +42,12 @@ pub fn stale_l2_under(
         Status::Empty => Ok(None),
         Status::Valid { .. } => Ok(None),
         Status::Invalidated(_) => {
-            let count = show_levels(rows, book.rows, scratch, most, side, L2_WORDS, out)?;
+            let lent = LentRows {
+                words: rows,
+                count: book.rows,
+            };
+            let sound = SoundRows { rows: lent };
+            let count = show_levels(sound, scratch, most, side, L2_WORDS, out)?;
             Ok(Some(count))
         }
     }

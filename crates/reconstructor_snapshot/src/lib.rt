@@ -3,12 +3,13 @@
 
 ghost use Rattle.std.specs.Prelude.{◌≡◌, cond, ◌+◌, ◌*◌, ◌≤◌, ltb};
 ghost use Rattle.book.specs.Line.{rests, has_level};
-ghost use Rattle.book.specs.Rows.{Lent, row_words, most_rows, rows_of, line_of, id_of, side_of, stored, snapshot_kind, snapshot_row};
+ghost use Rattle.book.specs.Rows.{row_words, most_rows, line_of, id_of, side_of, stored, snapshot_kind, snapshot_row};
+ghost use Rattle.book.specs.Lending.{rows_in};
 ghost use Rattle.reconstructor_bootstrap.specs.Snapshot.{snapshot_line, line_refusal, snapshot_refusal};
 ghost use Rattle.reconstructor_bootstrap.specs.Bootstrap.{validated};
 ghost use Rattle.reconstructor_bootstrap.specs.Places.{side_at, entry_at, entries_from, rows_at, Room};
 
-use book::Resting;
+use book::{LentRows, Resting};
 use message::{L3Side, L3Snapshot, OrderId, ProductId};
 use reconstructor_bootstrap::SnapshotError;
 use reconstructor_state::VenueRules;
@@ -73,24 +74,22 @@ pub fn store_rows(
     }
 }
 
-// Whether one of the first `i` rows has the id of `order`.
-fn id_rests(rows: &[u64], i: usize, order: Resting) -> bool
-    requires { Lent rows.now i }
-    ensures { result ≡ rests (id_of order) (line_of (rows_of rows.now i)) }
+// Whether a row has the id of `order`.
+fn id_rests(rows: LentRows<'_>, order: Resting) -> bool
+    ensures { result ≡ rests (id_of order) (line_of (rows_in rows.entry)) }
 {
     let id = OrderId {
         high: order.high,
         low: order.low,
     };
-    book_search::find(rows, i, id).is_some()
+    book_search::find(rows, id).is_some()
 }
 
-// How many levels `order` adds to those of the first `i` rows.
-fn levels_added(rows: &[u64], i: usize, order: Resting) -> usize
-    requires { Lent rows.now i }
-    ensures { (result ≡ cond (has_level (side_of order.kind) order.price (line_of (rows_of rows.now i))) 0 1) × (result ≤ 1) }
+// How many levels `order` adds to those of the rows.
+fn levels_added(rows: LentRows<'_>, order: Resting) -> usize
+    ensures { (result ≡ cond (has_level (side_of order.kind) order.price (line_of (rows_in rows.entry))) 0 1) × (result ≤ 1) }
 {
-    if book_search::has_level(rows, i, book::side_of(order.kind), order.price) {
+    if book_search::has_level(rows, book::side_of(order.kind), order.price) {
         0
     } else {
         1
@@ -98,41 +97,40 @@ fn levels_added(rows: &[u64], i: usize, order: Resting) -> usize
 }
 
 // The number of the first order that is turned away, or 13: the plain search, each order against those before it.
-fn check_in_turn(rows: &[u64], n: usize, max_levels: usize) -> Result<(), SnapshotError>
-    requires { Lent rows.now n }
-    ensures { result ≡ validated (line_refusal max_levels (line_of (rows_of rows.now n))) }
+fn check_in_turn(rows: LentRows<'_>, max_levels: usize) -> Result<(), SnapshotError>
+    ensures { result ≡ validated (line_refusal max_levels (line_of (rows_in rows.entry))) }
 {
     let mut levels: usize = 0;
-    for i in 0..n {
-        let order = book::get_row(rows, i);
-        if id_rests(rows, i, order) {
+    for i in 0..rows.count {
+        let order = rows.get(i);
+        let before = LentRows {
+            words: rows.words,
+            count: i,
+        };
+        if id_rests(before, order) {
             return Err(SnapshotError::DuplicateId);
         }
         if (order.price == 0) | (order.remaining == 0) {
             return Err(SnapshotError::InvalidValue);
         }
-        let added = levels_added(rows, i, order);
+        let added = levels_added(before, order);
         if (added == 1) & (max_levels <= levels) {
             return Err(SnapshotError::CapacityExceeded);
         }
         levels += added;
     }
-    if book_prices::meet(
-        book_prices::best_bid(rows, n),
-        book_prices::best_ask(rows, n),
-    ) {
+    if book_prices::meet(book_prices::best_bid(rows), book_prices::best_ask(rows)) {
         return Err(SnapshotError::Crossed);
     }
     Ok(())
 }
 
 // The same: rows that number 3 does not name, which is known in expected linear time, fit; only others are searched.
-fn validate_rows(rows: &[u64], n: usize, max_levels: usize) -> Result<(), SnapshotError>
-    requires { Lent rows.now n }
-    ensures { result ≡ validated (line_refusal max_levels (line_of (rows_of rows.now n))) }
+fn validate_rows(rows: LentRows<'_>, max_levels: usize) -> Result<(), SnapshotError>
+    ensures { result ≡ validated (line_refusal max_levels (line_of (rows_in rows.entry))) }
 {
-    if book_valid::rows_broken(rows, n, max_levels) {
-        return check_in_turn(rows, n, max_levels);
+    if book_valid::rows_broken(rows.words, rows.count, max_levels) {
+        return check_in_turn(rows, max_levels);
     }
     Ok(())
 }
@@ -156,7 +154,11 @@ fn validate_staged<const WORDS: usize>(
 {
     let mut rows = [0u64; WORDS];
     store_rows(&mut rows, 0, bytes, bids, n, 0);
-    validate_rows(&rows, n, max_levels)
+    let staged = LentRows {
+        words: &rows,
+        count: n,
+    };
+    validate_rows(staged, max_levels)
 }
 
 fn validate_orders(

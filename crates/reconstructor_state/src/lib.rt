@@ -11,6 +11,10 @@ use reconstructor_answers::Invalidation;
 use reconstructor_counts::{Counter, MessageCounts};
 use reconstructor_segments::SegmentName;
 
+mod limit;
+
+pub use limit::Ceiling;
+
 // What a size decrease does to an order's place in its queue.
 #[derive(Clone, Copy)]
 pub enum SizeDecrease {

@@ -9,17 +9,18 @@ ghost use Rattle.reconstructor_plan.specs.Plans.{Ready};
 ghost use Rattle.reconstructor.specs.Refusals.{turn_refusal};
 ghost use Rattle.reconstructor.specs.Inner.{TurnsFor};
 
-use book_index::Bounds;
+use book::LentRows;
+use book_index::{Bounds, IndexedRows};
 use message::L3Message;
 use reconstructor_answers::InvalidationKind;
 use reconstructor_plan::Plan;
 use reconstructor_state::BookReconstructor;
 
 // The turn of a message: its sequence, then its event.
-pub fn take_turn(
+pub fn take_turn<'a>(
     book: BookReconstructor,
-    rows: &[u64],
-    places: &[u16],
+    rows: &'a [u64],
+    places: &'a [u16],
     bounds: Option<Bounds>,
     last_seq: u64,
     message: L3Message,
@@ -42,15 +43,15 @@ pub fn take_turn(
     if seq > expected {
         return Err(InvalidationKind::Gap { expected, got: seq });
     }
-    match reconstructor_plan_event::plan_event(
-        book.rules,
-        rows,
-        book.rows,
+    let index = IndexedRows {
+        rows: LentRows {
+            words: rows,
+            count: book.rows,
+        },
         places,
         bounds,
-        seq,
-        message.event,
-    ) {
+    };
+    match reconstructor_plan_event::plan_event(book.rules, index, seq, message.event) {
         Ok(plan) => Ok(plan),
         Err(d) => Err(InvalidationKind::Discrepancy(d)),
     }

@@ -1,8 +1,7 @@
 // Whether a book may be read, and why not; the answers of the reads whose answer is a value.
 #![tactic(auto)]
 
-ghost use Rattle.std.specs.Prelude.{◌≡◌, ◌≤◌};
-ghost use Rattle.book.specs.Rows.{most_rows};
+ghost use Rattle.std.specs.Prelude.{◌≡◌};
 ghost use Rattle.book.specs.Memory.{memory};
 ghost use Rattle.reconstructor_state.specs.State.{last_of};
 ghost use Rattle.reconstructor_checks.specs.StateChecks.{checked};
@@ -11,7 +10,7 @@ ghost use Rattle.reconstructor_view.specs.Numbers.{view_error_number, finding_nu
 
 use book_valid::AuditFinding;
 use reconstructor_answers::{Invalidation, StateError};
-use reconstructor_state::{BookReconstructor, Status};
+use reconstructor_state::{BookReconstructor, Ceiling, Status};
 
 // Why no valid book is available: 1, 2, 3, 15, 18.
 #[derive(Clone, Copy)]
@@ -66,15 +65,14 @@ pub fn audited_number(answer: Result<Result<(), AuditFinding>, ViewError>) -> u6
 
 // 1, 2 and 3 of a read under a ceiling. `short` says that the scratch it is lent, if any, is too short.
 pub fn read_checks(
-    top: usize,
+    top: Ceiling,
     book: BookReconstructor,
     rows: &[u64],
     short: bool,
 ) -> Result<(), StateError>
-    requires { top ≤ most_rows }
-    ensures { result ≡ checked (read_refusal_of top book (memory rows.now) short) }
+    ensures { result ≡ checked (read_refusal_of top.limit book (memory rows.now) short) }
 {
-    if reconstructor_checks::over_ceiling(top, book.rules) {
+    if reconstructor_checks::over_ceiling(top.limit, book.rules) {
         return Err(StateError::LimitAboveCeiling);
     }
     if reconstructor_checks::memory_short(book.rules, rows) | short {
@@ -99,13 +97,12 @@ fn valid_status(status: Status) -> Result<u64, ViewError>
 
 // The valid book's last sequence, or why there is no such book. Every read of a valid book asks it first.
 pub fn valid_book(
-    top: usize,
+    top: Ceiling,
     book: BookReconstructor,
     rows: &[u64],
     short: bool,
 ) -> Result<u64, ViewError>
-    requires { top ≤ most_rows }
-    ensures { result ≡ sequence_of (view_refusal_of top book (memory rows.now) short) (last_of book.status) }
+    ensures { result ≡ sequence_of (view_refusal_of top.limit book (memory rows.now) short) (last_of book.status) }
 {
     match read_checks(top, book, rows, short) {
         Err(why) => Err(ViewError::Unusable(why)),

@@ -15,9 +15,9 @@ use Rattle.queue_ahead.proofs.anchor_ahead.Goals as goal
 
 pub ahead_of_list-requires : goal.ahead_of_list-requires
 ahead_of_list-requires c =
-    let h = rw c.in-Hypothetical.is at c.requires.ahead_value in
+    let h = rw c.in-Hypothetical.is at c.requires in
     let s = or_no (ltb list_bound c.in-Hypothetical.orders) (ltb (length c.args.ahead.now) (ahead_entry_words * c.in-Hypothetical.orders)) h in
-    record { lent = c.requires.lent; orders_in_bounds = (ltb-false _ _ s.1, ltb-false _ _ s.0) }
+    (ltb-false _ _ s.1, ltb-false _ _ s.0)
 
 pub returns-in-Hypothetical : goal.returns-in-Hypothetical
 returns-in-Hypothetical c = rw c.in-Hypothetical.is c.ahead_of_list.ensures

@@ -16,18 +16,18 @@ use Rattle.reconstructor_view.proofs.Readable.{refused-for, found-valid}
 use Rattle.queue.specs.Estimates.{estimated}
 use Rattle.queue_estimates.proofs.queue_estimate_under.Goals as goal
 
-pub order_count-orders-requires : goal.order_count-orders-requires
-order_count-orders-requires c =
+pub invariant_of-lent : goal.invariant_of-lent
+invariant_of-lent c =
     let a = c.args in
     let m = memory a.rows.now in
-    let v = found-valid a.top a.book m false _ c.valid_book.ensures _ c.in_ok-last_seq.was in
-    rows-ready a.top a.book m c.requires v.2.trusted
+    let v = found-valid a.top.limit a.book m false _ c.valid_book.ensures _ c.in_ok-last_seq.was in
+    record { lent = rows-ready a.top.limit a.book m a.top.workable v.2.trusted }
 
 pub returns-then-ahead-orders : goal.returns-then-ahead-orders
 unfolding estimated
 returns-then-ahead-orders c =
     let a = c.args in
-    let v = found-valid a.top a.book (memory a.rows.now) false _ c.valid_book.ensures _ c.in_ok-last_seq.was in
+    let v = found-valid a.top.limit a.book (memory a.rows.now) false _ c.valid_book.ensures _ c.in_ok-last_seq.was in
     let os = rows_at a.side c.size_of-at.result (orders_of (memory a.rows.now) a.book.rows) in
     let e : length os ≡ c.order_count-orders.result = sym c.order_count-orders.ensures in
     let z = sized a.price c.size_of-at.ensures c.ranges.price in
@@ -37,22 +37,22 @@ pub write_orders-requires : goal.write_orders-requires
 write_orders-requires c =
     let a = c.args in
     let m = memory a.rows.now in
-    let v = found-valid a.top a.book m false _ c.valid_book.ensures _ c.in_ok-last_seq.was in
+    let v = found-valid a.top.limit a.book m false _ c.valid_book.ensures _ c.in_ok-last_seq.was in
     let os = rows_at a.side c.size_of-at.result (orders_of m a.book.rows) in
-    (rows-ready a.top a.book m c.requires v.2.trusted, omega (arith, width-entries Ahead os, c.order_count-orders.ensures, c.if-ahead-orders.false))
+    omega (arith, width-entries Ahead os, c.order_count-orders.ensures, c.if-ahead-orders.false)
 
 pub returns-in_err-last_seq : goal.returns-in_err-last_seq
 unfolding estimated
 returns-in_err-last_seq c =
     let a = c.args in
     let p = err_from_is_err_and c.from_residual.result c.from_residual.ensures.1 in
-    rw (p.1, p.2, refused-for a.top a.book (memory a.rows.now) false _ c.valid_book.ensures _ c.in_err-last_seq.was)
+    rw (p.1, p.2, refused-for a.top.limit a.book (memory a.rows.now) false _ c.valid_book.ensures _ c.in_err-last_seq.was)
 
 pub returns : goal.returns
 unfolding estimated
 returns c =
     let a = c.args in
-    let v = found-valid a.top a.book (memory a.rows.now) false _ c.valid_book.ensures _ c.in_ok-last_seq.was in
+    let v = found-valid a.top.limit a.book (memory a.rows.now) false _ c.valid_book.ensures _ c.in_ok-last_seq.was in
     let os = rows_at a.side c.size_of-at.result (orders_of (memory a.rows.now) a.book.rows) in
     let e : length os ≡ c.order_count-orders.result = sym c.order_count-orders.ensures in
     let z = sized a.price c.size_of-at.ensures c.ranges.price in
@@ -62,6 +62,6 @@ pub overflow_mul-orders : goal.overflow_mul-orders
 overflow_mul-orders c =
     let a = c.args in
     let m = memory a.rows.now in
-    let v = found-valid a.top a.book m false _ c.valid_book.ensures _ c.in_ok-last_seq.was in
-    let l = rows-ready a.top a.book m c.requires v.2.trusted in
+    let v = found-valid a.top.limit a.book m false _ c.valid_book.ensures _ c.in_ok-last_seq.was in
+    let l = rows-ready a.top.limit a.book m c.args.top.workable v.2.trusted in
     record { fits = omega (arith, c.order_count-orders.ensures, at_most a.side c.size_of-at.result (orders_of m a.book.rows), length-rows a.rows.now 0 a.book.rows, l.few) }

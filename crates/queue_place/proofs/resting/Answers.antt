@@ -4,11 +4,11 @@ use Rattle.book.proofs.Stored.{found_at}
 use Rattle.queue.proofs.Ahead.{row-found, row_missed}
 use Rattle.queue_place.proofs.resting.Goals as goal
 
-pub get_row-requires : goal.get_row-requires
-get_row-requires c = let f = found_at c.args.rows.now c.args.n c.args.id _ (sym c.find.ensures ∙ c.in-Some.is) in (omega (arith, f.inside, c.requires.room), omega (arith, f.inside, c.requires.few))
+pub get-requires : goal.get-requires
+get-requires c = let f = found_at c.args.rows.words.now c.args.rows.count c.args.id _ (sym c.find.ensures ∙ c.in-Some.is) in f.inside
 
 pub returns-in-Some : goal.returns-in-Some
-returns-in-Some c = rw c.get_row.ensures (sym (row-found c.args.rows.now c.args.n c.args.id _ c.find.ensures _ c.in-Some.is))
+returns-in-Some c = rw c.get.ensures (sym (row-found c.args.rows.words.now c.args.rows.count c.args.id _ c.find.ensures _ c.in-Some.is))
 
 pub returns-in-None : goal.returns-in-None
-returns-in-None c = sym (row_missed c.args.rows.now c.args.n c.args.id _ c.find.ensures c.in-None.is)
+returns-in-None c = sym (row_missed c.args.rows.words.now c.args.rows.count c.args.id _ c.find.ensures c.in-None.is)

@@ -7,4 +7,4 @@ use Rattle.queue.specs.Ahead.{tally_of, before}
 use Rattle.queue_tally.proofs.tally_before.Given as goal
 
 abbrev pub invariant-loop-i : goal.invariant-loop-i
-invariant-loop-i l = l.t ≡ tally_of l.since (before l.own (rows_at l.side l.price (rows_from l.rows l.i (l.n - l.i))))
+invariant-loop-i l = l.t ≡ tally_of l.since (before l.own (rows_at l.side l.price (rows_from l.sound.rows.words.now l.i (l.sound.rows.count - l.i))))

@@ -9,7 +9,7 @@ use Rattle.reconstructor_apply.proofs.apply_under.Goals as goal
 pub apply_trusted-requires : goal.apply_trusted-requires
 apply_trusted-requires c =
     let a = c.args in
-    trusted_under a.top a.book (memory a.rows.now) a.lent c.requires (usable a.top a.book (memory a.rows.now) a.lent (said-none _ _ c.own_checks.ensures c.in-Ok.is))
+    trusted_under a.top.limit a.book (memory a.rows.now) a.lent c.args.top.workable (usable a.top.limit a.book (memory a.rows.now) a.lent (said-none _ _ c.own_checks.ensures c.in-Ok.is))
 
 pub returns-in-Err : goal.returns-in-Err
 unfolding applied_to after_gate gate_refusal

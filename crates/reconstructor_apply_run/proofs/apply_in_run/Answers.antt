@@ -7,8 +7,11 @@ use Rattle.reconstructor.proofs.Laws.{trusted-ready}
 use Rattle.reconstructor_apply_run.proofs.Runs.{foreseen, noted_indexed}
 use Rattle.reconstructor_apply_run.proofs.apply_in_run.Goals as goal
 
+pub invariant_of-lent : goal.invariant_of-lent
+invariant_of-lent c = record { lent = rows-ready most_rows c.args.book (memory c.args.rows.now) (omega arith) c.requires.trusted }
+
 pub foresee-next-requires : goal.foresee-next-requires
-foresee-next-requires c = (rows-ready most_rows c.args.book (memory c.args.rows.now) (omega arith) c.requires.trusted, c.requires.indexed.within)
+foresee-next-requires c = c.requires.indexed.within
 
 pub apply_indexed-work-requires : goal.apply_indexed-work-requires
 apply_indexed-work-requires c = record { ready = trusted-ready c.args.book (memory c.args.rows.now) c.requires.trusted; indexed = foreseen _ _ _ _ c.requires.indexed c.foresee-next.ensures.0 }

@@ -14,7 +14,7 @@ returns-then-over_ceiling c = says (fails _ _ _ (told-true c.over_ceiling.ensure
 
 pub memory_short-requires : goal.memory_short-requires
 memory_short-requires c =
-    let m = orders-within c.args.top c.args.book.rules (sym c.over_ceiling.ensures ∙ c.if-over_ceiling.false) in
+    let m = orders-within c.args.top.limit c.args.book.rules (sym c.over_ceiling.ensures ∙ c.if-over_ceiling.false) in
     omega arith
 
 pub returns-then-memory_short-lent : goal.returns-then-memory_short-lent
@@ -26,7 +26,7 @@ returns-then-memory_short-lent c =
 pub broken-requires : goal.broken-requires
 broken-requires c =
     let s = rw c.memory_short.ensures at c.if-memory_short-lent.false in
-    let m = orders-within c.args.top c.args.book.rules (sym c.over_ceiling.ensures ∙ c.if-over_ceiling.false) in
+    let m = orders-within c.args.top.limit c.args.book.rules (sym c.over_ceiling.ensures ∙ c.if-over_ceiling.false) in
     (memory-lent c.args.book (memory c.args.rows.now) c.args.lent s, omega arith)
 
 pub returns-then-broken : goal.returns-then-broken

@@ -18,33 +18,31 @@ pub returns-in_default : goal.returns-in_default
 unfolding event_refusal change_refusal size_refusal event_deed effect counter_of
 returns-in_default c = λ v. rw (no_row _ _ _ _ c.find.ensures c.in_default.is) (refl, refl, tt)
 
-pub get_row-order-requires : goal.get_row-order-requires
-get_row-order-requires c =
-    let k = (at_row _ _ _ _ c.find.ensures _ c.in-Some.is).inside in
-    (omega arith, omega arith)
+pub get-order-requires : goal.get-order-requires
+get-order-requires c = (at_row _ _ _ _ c.find.ensures _ c.in-Some.is).inside
 
 pub returns-then-is_modify : goal.returns-then-is_modify
 unfolding event_refusal change_refusal size_refusal event_deed effect counter_of
 returns-then-is_modify c =
-    let f = row-entry _ _ _ _ c.find.ensures _ c.get_row-order.result c.in-Some.is c.get_row-order.ensures in
+    let f = row-entry _ _ _ _ c.find.ensures _ c.get-order.result c.in-Some.is c.get-order.ensures in
     λ v. rw f (search links depth 20)
 
 pub returns-then-change_differs : goal.returns-then-change_differs
 unfolding event_refusal change_refusal size_refusal event_deed effect counter_of
 returns-then-change_differs c =
-    let f = row-entry _ _ _ _ c.find.ensures _ c.get_row-order.result c.in-Some.is c.get_row-order.ensures in
+    let f = row-entry _ _ _ _ c.find.ensures _ c.get-order.result c.in-Some.is c.get-order.ensures in
     λ v. rw f (search links depth 20)
 
 pub returns-then-given_differs : goal.returns-then-given_differs
 unfolding event_refusal change_refusal size_refusal event_deed effect counter_of
 returns-then-given_differs c =
-    let f = row-entry _ _ _ _ c.find.ensures _ c.get_row-order.result c.in-Some.is c.get_row-order.ensures in
+    let f = row-entry _ _ _ _ c.find.ensures _ c.get-order.result c.in-Some.is c.get-order.ensures in
     λ v. rw f (search links depth 20)
 
 pub returns-in_default-new_size : goal.returns-in_default-new_size
 unfolding event_refusal change_refusal size_refusal event_deed effect counter_of
 returns-in_default-new_size c =
-    let f = row-entry _ _ _ _ c.find.ensures _ c.get_row-order.result c.in-Some.is c.get_row-order.ensures in
+    let f = row-entry _ _ _ _ c.find.ensures _ c.get-order.result c.in-Some.is c.get-order.ensures in
     λ v. rw (f, c.in_default-new_size.is, c.reason_of.ensures)
     (goes_on _ _ _ _ (told-false c.is_modify.ensures c.if-is_modify.false) (goes_on _ _ _ _ (told-false c.change_differs.ensures c.if-change_differs.false) (goes_on _ _ _ _ (told-false c.given_differs.ensures c.if-given_differs.false) (refl))))
 
@@ -52,7 +50,7 @@ pub returns-then-is_negative : goal.returns-then-is_negative
 unfolding event_refusal change_refusal size_refusal event_deed effect counter_of
 returns-then-is_negative c =
     let e : to_z w64 (of_z w64 c.in-Some-new_size.size) ≡ c.in-Some-new_size.size = search rules in
-    let f = row-entry _ _ _ _ c.find.ensures _ c.get_row-order.result c.in-Some.is c.get_row-order.ensures in
+    let f = row-entry _ _ _ _ c.find.ensures _ c.get-order.result c.in-Some.is c.get-order.ensures in
     let n = rw e at c.is_negative.ensures in
     λ v. rw (f, c.in-Some-new_size.is)
     (goes_on _ _ _ _ (told-false c.is_modify.ensures c.if-is_modify.false) (goes_on _ _ _ _ (told-false c.change_differs.ensures c.if-change_differs.false) (goes_on _ _ _ _ (told-false c.given_differs.ensures c.if-given_differs.false) (fails _ _ _ (told-true n c.if-is_negative.true)))))
@@ -61,7 +59,7 @@ pub returns-then-order-left : goal.returns-then-order-left
 unfolding event_refusal change_refusal size_refusal event_deed effect counter_of
 returns-then-order-left c =
     let e : to_z w64 (of_z w64 c.in-Some-new_size.size) ≡ c.in-Some-new_size.size = search rules in
-    let f = row-entry _ _ _ _ c.find.ensures _ c.get_row-order.result c.in-Some.is c.get_row-order.ensures in
+    let f = row-entry _ _ _ _ c.find.ensures _ c.get-order.result c.in-Some.is c.get-order.ensures in
     let n = rw e at c.is_negative.ensures in
     let q = c.size_of-left.ensures ∙ ap nat_of e in
     λ v. rw (f, c.in-Some-new_size.is, ← q)
@@ -71,7 +69,7 @@ pub returns-then-left-order : goal.returns-then-left-order
 unfolding event_refusal change_refusal size_refusal event_deed effect counter_of
 returns-then-left-order c =
     let e : to_z w64 (of_z w64 c.in-Some-new_size.size) ≡ c.in-Some-new_size.size = search rules in
-    let f = row-entry _ _ _ _ c.find.ensures _ c.get_row-order.result c.in-Some.is c.get_row-order.ensures in
+    let f = row-entry _ _ _ _ c.find.ensures _ c.get-order.result c.in-Some.is c.get-order.ensures in
     let n = rw e at c.is_negative.ensures in
     let q = c.size_of-left.ensures ∙ ap nat_of e in
     λ v. rw (f, c.in-Some-new_size.is, ← q, eq-eqb _ _ c.if-left-order.true)
@@ -81,10 +79,10 @@ pub returns : goal.returns
 unfolding event_refusal change_refusal size_refusal event_deed effect counter_of
 returns c =
     let e : to_z w64 (of_z w64 c.in-Some-new_size.size) ≡ c.in-Some-new_size.size = search rules in
-    let f = row-entry _ _ _ _ c.find.ensures _ c.get_row-order.result c.in-Some.is c.get_row-order.ensures in
+    let f = row-entry _ _ _ _ c.find.ensures _ c.get-order.result c.in-Some.is c.get-order.ensures in
     let n = rw e at c.is_negative.ensures in
     let q = c.size_of-left.ensures ∙ ap nat_of e in
     let k = at_row _ _ _ _ c.find.ensures _ c.in-Some.is in
-    let g = cut-outcome c.args.rows.now c.args.n c.args.order_id _ k c.size_of-left.result (Some c.args.seq) Stp in
-    let h = cut_fits c.args.rows.now c.args.n c.args.order_id _ k c.size_of-left.result (Some c.args.seq) Stp in
+    let g = cut-outcome c.args.index.rows.words.now c.args.index.rows.count c.args.order_id _ k c.size_of-left.result (Some c.args.seq) Stp in
+    let h = cut_fits c.args.index.rows.words.now c.args.index.rows.count c.args.order_id _ k c.size_of-left.result (Some c.args.seq) Stp in
     λ v. (rw (f, c.in-Some-new_size.is, ← q) (goes_on _ _ _ _ (told-false c.is_modify.ensures c.if-is_modify.false) (goes_on _ _ _ _ (told-false c.change_differs.ensures c.if-change_differs.false) (goes_on _ _ _ _ (told-false c.given_differs.ensures c.if-given_differs.false) (goes_on _ _ _ _ (told-false n c.if-is_negative.false) (goes_on _ _ _ _ (le-ltb _ _ c.if-order-left.false) (refl)))))), rw (c.cut_plan.ensures, f, c.in-Some-new_size.is, ← q, ne_eqb _ _ c.if-left-order.false) g, rw c.cut_plan.ensures h)

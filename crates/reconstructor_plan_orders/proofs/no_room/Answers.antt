@@ -1,10 +1,10 @@
 use Rattle.reconstructor_plan.proofs.Found.{room_enough}
 use Rattle.reconstructor_plan_orders.proofs.no_room.Goals as goal
 
-pub returns-then-n-rules : goal.returns-then-n-rules
-returns-then-n-rules c =
+pub returns-then-rows-rules : goal.returns-then-rows-rules
+returns-then-rows-rules c =
     let a = c.args in
-    room_enough a.rules a.rows.now a.n a.side a.price c.if-n-rules.true
+    room_enough a.rules a.rows.words.now a.rows.count a.side a.price c.if-rows-rules.true
 
 pub returns-then-has_level : goal.returns-then-has_level
 returns-then-has_level c = rw (← c.has_level.ensures, c.if-has_level.true)

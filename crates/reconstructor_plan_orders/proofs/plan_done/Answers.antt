@@ -12,32 +12,30 @@ pub returns-in_default : goal.returns-in_default
 unfolding event_refusal done_refusal event_deed effect counter_of
 returns-in_default c = λ v seq. rw (no_row _ _ _ _ c.find.ensures c.in_default.is) (refl, refl, tt)
 
-pub get_row-order-requires : goal.get_row-order-requires
-get_row-order-requires c =
-    let k = (at_row _ _ _ _ c.find.ensures _ c.in-Some.is).inside in
-    (omega arith, omega arith)
+pub get-order-requires : goal.get-order-requires
+get-order-requires c = (at_row _ _ _ _ c.find.ensures _ c.in-Some.is).inside
 
 pub returns-then-done_differs : goal.returns-then-done_differs
 unfolding event_refusal done_refusal event_deed effect counter_of
 returns-then-done_differs c =
-    let f = row-entry _ _ _ _ c.find.ensures _ c.get_row-order.result c.in-Some.is c.get_row-order.ensures in
+    let f = row-entry _ _ _ _ c.find.ensures _ c.get-order.result c.in-Some.is c.get-order.ensures in
     λ v seq. rw f (search links depth 20)
 
 pub returns-then-absent_or_differs : goal.returns-then-absent_or_differs
 unfolding event_refusal done_refusal event_deed effect counter_of
 returns-then-absent_or_differs c =
-    let f = row-entry _ _ _ _ c.find.ensures _ c.get_row-order.result c.in-Some.is c.get_row-order.ensures in
+    let f = row-entry _ _ _ _ c.find.ensures _ c.get-order.result c.in-Some.is c.get-order.ensures in
     λ v seq. rw (f, c.in-Canceled.is) (search links depth 20)
 
 pub returns-in-Filled : goal.returns-in-Filled
 unfolding event_refusal done_refusal event_deed effect counter_of
 returns-in-Filled c =
-    let f = row-entry _ _ _ _ c.find.ensures _ c.get_row-order.result c.in-Some.is c.get_row-order.ensures in
+    let f = row-entry _ _ _ _ c.find.ensures _ c.get-order.result c.in-Some.is c.get-order.ensures in
     λ v seq. rw (f, c.in-Filled.is) (search links depth 20)
 
 pub returns-else-absent_or_differs : goal.returns-else-absent_or_differs
 unfolding event_refusal done_refusal event_deed effect counter_of
 returns-else-absent_or_differs c =
-    let f = row-entry _ _ _ _ c.find.ensures _ c.get_row-order.result c.in-Some.is c.get_row-order.ensures in
+    let f = row-entry _ _ _ _ c.find.ensures _ c.get-order.result c.in-Some.is c.get-order.ensures in
     let k = at_row _ _ _ _ c.find.ensures _ c.in-Some.is in
     λ v seq. rw (f, c.in-Canceled.is, k.gone None) (search links depth 20, refl, k.inside)

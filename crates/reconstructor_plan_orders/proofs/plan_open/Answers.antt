@@ -33,26 +33,26 @@ returns-then-would_cross c =
     let q = sized _ c.size_of-q.ensures c.ranges.remaining in
     rw (no_row _ _ _ _ c.find.ensures c.in-None.is, ← p, ← q) (search links depth 20)
 
-pub returns-then-n-rules : goal.returns-then-n-rules
+pub returns-then-index-rules : goal.returns-then-index-rules
 unfolding event_refusal open_refusal event_deed effect counter_of
-returns-then-n-rules c =
+returns-then-index-rules c =
     let p = sized _ c.size_of-p.ensures c.ranges.price in
     let q = sized _ c.size_of-q.ensures c.ranges.remaining in
-    rw (no_row _ _ _ _ c.find.ensures c.in-None.is, ← p, ← q, line-length c.args.rows.now c.args.n)
-    (goes_on _ _ _ _ (refl) (goes_on _ _ _ _ (ne_eqb _ _ c.if-p-eq0.false) (goes_on _ _ _ _ (ne_eqb _ _ c.if-q-eq0.false) (goes_on _ _ _ _ (told-false c.would_cross.ensures c.if-would_cross.false) (fails _ _ _ (le-leb _ _ c.if-n-rules.true))))))
+    rw (no_row _ _ _ _ c.find.ensures c.in-None.is, ← p, ← q, line-length c.args.index.rows.words.now c.args.index.rows.count)
+    (goes_on _ _ _ _ (refl) (goes_on _ _ _ _ (ne_eqb _ _ c.if-p-eq0.false) (goes_on _ _ _ _ (ne_eqb _ _ c.if-q-eq0.false) (goes_on _ _ _ _ (told-false c.would_cross.ensures c.if-would_cross.false) (fails _ _ _ (le-leb _ _ c.if-index-rules.true))))))
 
 pub returns-then-no_room : goal.returns-then-no_room
 unfolding event_refusal open_refusal event_deed effect counter_of
 returns-then-no_room c =
     let p = sized _ c.size_of-p.ensures c.ranges.price in
     let q = sized _ c.size_of-q.ensures c.ranges.remaining in
-    rw (no_row _ _ _ _ c.find.ensures c.in-None.is, ← p, ← q, line-length c.args.rows.now c.args.n)
-    (goes_on _ _ _ _ (refl) (goes_on _ _ _ _ (ne_eqb _ _ c.if-p-eq0.false) (goes_on _ _ _ _ (ne_eqb _ _ c.if-q-eq0.false) (goes_on _ _ _ _ (told-false c.would_cross.ensures c.if-would_cross.false) (goes_on _ _ _ _ (lt-leb _ _ c.if-n-rules.false) (fails _ _ _ (told-true c.no_room.ensures c.if-no_room.true)))))))
+    rw (no_row _ _ _ _ c.find.ensures c.in-None.is, ← p, ← q, line-length c.args.index.rows.words.now c.args.index.rows.count)
+    (goes_on _ _ _ _ (refl) (goes_on _ _ _ _ (ne_eqb _ _ c.if-p-eq0.false) (goes_on _ _ _ _ (ne_eqb _ _ c.if-q-eq0.false) (goes_on _ _ _ _ (told-false c.would_cross.ensures c.if-would_cross.false) (goes_on _ _ _ _ (lt-leb _ _ c.if-index-rules.false) (fails _ _ _ (told-true c.no_room.ensures c.if-no_room.true)))))))
 
 pub returns : goal.returns
 unfolding event_refusal open_refusal event_deed effect counter_of
 returns c =
     let p = sized _ c.size_of-p.ensures c.ranges.price in
     let q = sized _ c.size_of-q.ensures c.ranges.remaining in
-    rw (no_row _ _ _ _ c.find.ensures c.in-None.is, ← p, ← q, line-length c.args.rows.now c.args.n, c.observed_row.ensures)
-    (goes_on _ _ _ _ (refl) (goes_on _ _ _ _ (ne_eqb _ _ c.if-p-eq0.false) (goes_on _ _ _ _ (ne_eqb _ _ c.if-q-eq0.false) (goes_on _ _ _ _ (told-false c.would_cross.ensures c.if-would_cross.false) (goes_on _ _ _ _ (lt-leb _ _ c.if-n-rules.false) (goes_on _ _ _ _ (told-false c.no_room.ensures c.if-no_room.false) (refl)))))), refl, (omega (arith, c.requires.ready.room, c.if-n-rules.false), omega (arith, c.requires.ready.small, c.if-n-rules.false)))
+    rw (no_row _ _ _ _ c.find.ensures c.in-None.is, ← p, ← q, line-length c.args.index.rows.words.now c.args.index.rows.count, c.observed_row.ensures)
+    (goes_on _ _ _ _ (refl) (goes_on _ _ _ _ (ne_eqb _ _ c.if-p-eq0.false) (goes_on _ _ _ _ (ne_eqb _ _ c.if-q-eq0.false) (goes_on _ _ _ _ (told-false c.would_cross.ensures c.if-would_cross.false) (goes_on _ _ _ _ (lt-leb _ _ c.if-index-rules.false) (goes_on _ _ _ _ (told-false c.no_room.ensures c.if-no_room.false) (refl)))))), refl, (omega (arith, c.requires.room, c.if-index-rules.false), omega (arith, c.requires.small, c.if-index-rules.false)))

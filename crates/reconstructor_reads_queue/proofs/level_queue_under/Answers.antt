@@ -9,25 +9,32 @@ use Rattle.reconstructor_view.proofs.Readable.{refused-for, found-valid}
 use Rattle.reconstructor_reads.specs.LevelReads.{Shows, level_shown, level_read, leaves, scratch_short}
 use Rattle.reconstructor_reads_queue.proofs.level_queue_under.Goals as goal
 
+pub invariant_of-lent : goal.invariant_of-lent
+invariant_of-lent c =
+    let a = c.args in
+    let m = memory a.rows.now in
+    let v = found-valid a.top.limit a.book m (scratch_short a.book a.scratch.now) _ c.valid_book.ensures _ c.in_ok-valid_book.was in
+    record { lent = rows-ready a.top.limit a.book m a.top.workable v.2.trusted }
+
 pub returns-in_err-valid_book : goal.returns-in_err-valid_book
 unfolding level_read
 returns-in_err-valid_book c =
     let a = c.args in
     let p = err_from_is_err_and c.from_residual.result c.from_residual.ensures.1 in
-    rw (p.1, p.2, refused-for a.top a.book (memory a.rows.now) (scratch_short a.book a.scratch.now) _ c.valid_book.ensures _ c.in_err-valid_book.was)
+    rw (p.1, p.2, refused-for a.top.limit a.book (memory a.rows.now) (scratch_short a.book a.scratch.now) _ c.valid_book.ensures _ c.in_err-valid_book.was)
 
 pub show_queue-requires : goal.show_queue-requires
 show_queue-requires c =
     let a = c.args in
     let m = memory a.rows.now in
-    let v = found-valid a.top a.book m (scratch_short a.book a.scratch.now) _ c.valid_book.ensures _ c.in_ok-valid_book.was in
-    (rows-ready a.top a.book m c.requires v.2.trusted, ltb-false _ _ v.2.room)
+    let v = found-valid a.top.limit a.book m (scratch_short a.book a.scratch.now) _ c.valid_book.ensures _ c.in_ok-valid_book.was in
+    ltb-false _ _ v.2.room
 
 pub returns-in_err-count : goal.returns-in_err-count
 unfolding level_read
 returns-in_err-count c =
     let a = c.args in
-    let v = found-valid a.top a.book (memory a.rows.now) (scratch_short a.book a.scratch.now) _ c.valid_book.ensures _ c.in_ok-valid_book.was in
+    let v = found-valid a.top.limit a.book (memory a.rows.now) (scratch_short a.book a.scratch.now) _ c.valid_book.ensures _ c.in_ok-valid_book.was in
     let z = sized a.price c.size_of-at.ensures c.ranges.price in
     let p = err_from_is_err_and c.from_residual-in_err-count.result c.from_residual-in_err-count.ensures.1 in
     rw (v.0, ← z, p.1, p.2) (ap (λ (w : Shows). leaves (level_shown w.answer) w.scratch w.out) c.in_err-count.ensures)
@@ -36,6 +43,6 @@ pub returns : goal.returns
 unfolding level_read
 returns c =
     let a = c.args in
-    let v = found-valid a.top a.book (memory a.rows.now) (scratch_short a.book a.scratch.now) _ c.valid_book.ensures _ c.in_ok-valid_book.was in
+    let v = found-valid a.top.limit a.book (memory a.rows.now) (scratch_short a.book a.scratch.now) _ c.valid_book.ensures _ c.in_ok-valid_book.was in
     let z = sized a.price c.size_of-at.ensures c.ranges.price in
     rw (v.0, ← z) (ap (λ (w : Shows). leaves (level_shown w.answer) w.scratch w.out) c.in_ok-count.ensures)

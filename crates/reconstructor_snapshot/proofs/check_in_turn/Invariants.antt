@@ -8,4 +8,4 @@ use Rattle.reconstructor_bootstrap.proofs.InTurn.{Reached}
 use Rattle.reconstructor_snapshot.proofs.check_in_turn.Given as goal
 
 abbrev pub invariant-loop-i : goal.invariant-loop-i
-invariant-loop-i l = (l.i ≤ l.n) × (l.levels ≤ l.i) × (l.levels ≡ levels_in (line_of (rows_of l.rows l.i))) × Reached l.max_levels l.rows l.n l.i
+invariant-loop-i l = (l.i ≤ l.rows.count) × (l.levels ≤ l.i) × (l.levels ≡ levels_in (line_of (rows_of l.rows.words.now l.i))) × Reached l.max_levels l.rows.words.now l.rows.count l.i

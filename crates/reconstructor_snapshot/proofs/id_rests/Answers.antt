@@ -19,4 +19,4 @@ some-find_row (o ∷ os) d i =
 pub returns : goal.returns
 returns c =
     let a = c.args in
-    c.is_some.ensures ∙ ap is_some c.find.ensures ∙ some-find_row (rows_of a.rows.now a.i) (id_of a.order) 0
+    c.is_some.ensures ∙ ap is_some c.find.ensures ∙ some-find_row (rows_of a.rows.words.now a.rows.count) (id_of a.order) 0

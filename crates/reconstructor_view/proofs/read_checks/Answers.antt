@@ -15,7 +15,7 @@ returns-then-over_ceiling c = says (fails _ _ _ (told-true c.over_ceiling.ensure
 
 pub memory_short-requires : goal.memory_short-requires
 memory_short-requires c =
-    let m = orders-within c.args.top c.args.book.rules (sym c.over_ceiling.ensures ∙ c.if-over_ceiling.false) in
+    let m = orders-within c.args.top.limit c.args.book.rules (sym c.over_ceiling.ensures ∙ c.if-over_ceiling.false) in
     omega arith
 
 pub returns-then-memory_short-short : goal.returns-then-memory_short-short
@@ -28,7 +28,7 @@ pub broken-requires : goal.broken-requires
 broken-requires c =
     let a = c.args in
     let s = rw c.memory_short.ensures at c.if-memory_short-short.false in
-    let m = orders-within a.top a.book.rules (sym c.over_ceiling.ensures ∙ c.if-over_ceiling.false) in
+    let m = orders-within a.top.limit a.book.rules (sym c.over_ceiling.ensures ∙ c.if-over_ceiling.false) in
     ((or_no (memory_short a.book.rules (extent_of (memory a.rows.now))) a.short s).0, omega arith)
 
 pub returns-then-broken : goal.returns-then-broken

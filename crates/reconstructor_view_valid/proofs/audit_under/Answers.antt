@@ -11,12 +11,12 @@ returns-in_err-valid_book c =
     let a = c.args in
     let m = memory a.rows.now in
     let p = err_from_is_err_and c.from_residual.result c.from_residual.ensures.1 in
-    rw (p.1, p.2, refused-for a.top a.book m false _ c.valid_book.ensures _ c.in_err-valid_book.was)
+    rw (p.1, p.2, refused-for a.top.limit a.book m false _ c.valid_book.ensures _ c.in_err-valid_book.was)
 
 pub returns : goal.returns
 unfolding audited_of
 returns c =
     let a = c.args in
     let m = memory a.rows.now in
-    let v = found-valid a.top a.book m false _ c.valid_book.ensures _ c.in_ok-valid_book.was in
-    rw (v.0, audit_ok a.top a.book m false v.2)
+    let v = found-valid a.top.limit a.book m false _ c.valid_book.ensures _ c.in_ok-valid_book.was in
+    rw (v.0, audit_ok a.top.limit a.book m false v.2)

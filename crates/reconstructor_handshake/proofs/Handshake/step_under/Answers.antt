@@ -9,15 +9,15 @@ use Rattle.reconstructor_handshake.proofs.Handshake.step_under.Goals as goal
 pub step_trusted-requires : goal.step_trusted-requires
 step_trusted-requires c =
     let a = c.args in
-    trusted_under a.top a.book (memory a.rows.now) a.lent c.requires (usable a.top a.book (memory a.rows.now) a.lent (said-none _ _ c.own_checks.ensures c.in-Ok.is))
+    trusted_under a.top.limit a.book (memory a.rows.now) a.lent c.args.top.workable (usable a.top.limit a.book (memory a.rows.now) a.lent (said-none _ _ c.own_checks.ensures c.in-Ok.is))
 
 pub returns-in-Err : goal.returns-in-Err
 returns-in-Err c =
     let a = c.args in
-    rw (unusable-work a.top a.self a.book (memory a.rows.now) a.lent a.last a.message _ (said _ _ _ c.own_checks.ensures c.in-Err.is), c.unchanged.ensures)
+    rw (unusable-work a.top.limit a.self a.book (memory a.rows.now) a.lent a.last a.message _ (said _ _ _ c.own_checks.ensures c.in-Err.is), c.unchanged.ensures)
 
 pub returns-in-Ok : goal.returns-in-Ok
 returns-in-Ok c =
     let a = c.args in
     c.step_trusted.ensures
-    ∙ sym (usable-work a.top a.self a.book (memory a.rows.now) a.lent a.last a.message (usable a.top a.book (memory a.rows.now) a.lent (said-none _ _ c.own_checks.ensures c.in-Ok.is)))
+    ∙ sym (usable-work a.top.limit a.self a.book (memory a.rows.now) a.lent a.last a.message (usable a.top.limit a.book (memory a.rows.now) a.lent (said-none _ _ c.own_checks.ensures c.in-Ok.is)))
