@@ -3,7 +3,7 @@
 
 ghost use Rattle.std.specs.Prelude.{◌≡◌, false, ◌≤◌, length};
 ghost use Rattle.piece.specs.Piece.{read_message};
-ghost use Rattle.book.specs.Rows.{Lent, rows_of};
+ghost use Rattle.book.specs.Lending.{rows_in};
 ghost use Rattle.book.specs.Memory.{memory};
 ghost use Rattle.reconstructor_state.specs.State.{ceiling};
 ghost use Rattle.reconstructor_bootstrap.specs.Bootstrap.{bootstrapped_to};
@@ -12,6 +12,7 @@ ghost use Rattle.daybook_pieces.specs.Played.{is_snapshot};
 ghost use Rattle.daybook_pieces.specs.Answers.{piece_answer_number};
 ghost use Rattle.daybook_pieces.specs.ByValue.{unstarted_turn, Marks, turned, by_bootstrap_to, play_message_to, played_to, Plays};
 
+use book::LentRows;
 use book_index::Bounds;
 use book_index_upkeep::{bounds_of, mark_rows};
 use daybook_segments::DAY_SEGMENTS;
@@ -85,24 +86,23 @@ fn clear(places: &mut [u16]) {
     places.fill(0);
 }
 
-// The index of the first `n` rows: made anew where a snapshot was taken, else the one that there is.
+// The index of the rows: made anew where a snapshot was taken, else the one that there is.
 fn index_after(
-    rows: &[u64],
-    n: usize,
+    rows: LentRows<'_>,
     places: &mut [u16],
     bounds: Option<Bounds>,
     taken: bool,
 ) -> Option<Bounds>
-    requires lent { Lent rows.now n × (length places.old ≤ 65536) }
-    requires marks { taken ≡ false → Marks places.old bounds (rows_of rows.now n) }
-    ensures { Marks places.new result (rows_of rows.now n) }
+    requires few { length places.old ≤ 65536 }
+    requires marks { taken ≡ false → Marks places.old bounds (rows_in rows) }
+    ensures { Marks places.new result (rows_in rows.entry) }
 {
     if !taken {
         return bounds;
     }
     clear(places);
-    mark_rows(rows, n, places);
-    Some(bounds_of(rows, n))
+    mark_rows(rows, places);
+    Some(bounds_of(rows))
 }
 
 // A piece that is to be a snapshot.
@@ -123,7 +123,11 @@ fn play_snapshot(
         Ok(snapshot) => {
             let work = bootstrap_usable(book, rows, DAY_SEGMENTS, last, bytes, snapshot);
             let next = work.book;
-            let bounds = index_after(rows, next.rows, places, bounds, work.at < DAY_SEGMENTS);
+            let lent = LentRows {
+                words: rows,
+                count: next.rows,
+            };
+            let bounds = index_after(lent, places, bounds, work.at < DAY_SEGMENTS);
             Turn {
                 answer: Answer::Snapshot(work.answer),
                 book: next,

@@ -6,6 +6,7 @@ ghost use Rattle.daybook_segments.specs.DaySegments.{day_segments};
 ghost use Rattle.daybook_replay.specs.Replay.{fresh_rows, is_continued, day_of};
 ghost use Rattle.daybook_replay.specs.ByValue.{ended_with};
 
+use book::LentRows;
 use book_index_upkeep::bounds_of;
 use daybook_file::DayFile;
 use daybook_pieces::play;
@@ -57,7 +58,10 @@ fn replay_pieces(file: DayFile<'_>, rows: &mut [u64], places: &mut [u16]) -> Day
     let count = file.piece_count();
     let rules = VenueRules::with_limits(DAY_LIMIT, DAY_LIMIT);
     let mut book = BookReconstructor::new(file.first_product(), rules, 0);
-    let mut bounds = Some(bounds_of(rows, 0));
+    let mut bounds = Some(bounds_of(LentRows {
+        words: rows,
+        count: 0,
+    }));
     let mut last = Segment::none();
     let mut segments = no_segments();
     for i in 0..count {

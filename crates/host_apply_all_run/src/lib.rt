@@ -5,6 +5,7 @@ ghost use Rattle.std.specs.Prelude.{◌≡◌, ◌≤◌, length};
 ghost use Rattle.host_apply_all_message.specs.Runs.{Runs};
 ghost use Rattle.host_apply_all_run.specs.Run.{run, count_of, apply_all_called, after_run, Ready};
 
+use book::LentRows;
 use book_index::Bounds;
 use host_apply_all_message::apply_next;
 use host_words::load_book;
@@ -53,9 +54,12 @@ fn apply_all_in(
     requires places_len_bound { length places.old ≤ 65536 }
     ensures { apply_all_called 0 state.new rows.new segments.new answers.new ≡ after_run answers.old (run (count_of messages.now) state.old rows.old segments.old messages.now) }
 {
-    let n = load_book(state).rows;
-    book_index_upkeep::mark_rows(rows, n, places);
-    let bounds = Some(book_index_upkeep::bounds_of(rows, n));
+    let lent = LentRows {
+        words: rows,
+        count: load_book(state).rows,
+    };
+    book_index_upkeep::mark_rows(lent, places);
+    let bounds = Some(book_index_upkeep::bounds_of(lent));
     apply_all_from(state, rows, segments, messages, answers, places, bounds)
 }
 

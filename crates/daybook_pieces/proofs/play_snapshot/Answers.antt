@@ -14,10 +14,15 @@ bootstrap_usable-work-requires c =
     let a = c.args in
     usable_under ceiling a.book (memory a.rows.now) day_segments (omega arith) c.requires.usable
 
+pub invariant_of-lent : goal.invariant_of-lent
+invariant_of-lent c =
+    let a = c.args in
+    record { lent = after-lent a.book a.rows.now _ a.last a.bytes.now _ c.bootstrap_usable-work.result c.requires.usable (sym c.read_snapshot.ensures.value ∙ c.in-Ok.is) c.bootstrap_usable-work.ensures }
+
 pub index_after-bounds-requires : goal.index_after-bounds-requires
 index_after-bounds-requires c =
     let a = c.args in
-    record { lent = (after-lent a.book a.rows.now _ a.last a.bytes.now _ c.bootstrap_usable-work.result c.requires.usable (sym c.read_snapshot.ensures.value ∙ c.in-Ok.is) c.bootstrap_usable-work.ensures, c.requires.index.few); marks = after-marks a.book a.rows.now _ a.last a.bytes.now _ c.bootstrap_usable-work.result c.requires.usable (sym c.read_snapshot.ensures.value ∙ c.in-Ok.is) c.bootstrap_usable-work.ensures _ _ c.requires.index }
+    record { few = c.requires.index.few; marks = after-marks a.book a.rows.now _ a.last a.bytes.now _ c.bootstrap_usable-work.result c.requires.usable (sym c.read_snapshot.ensures.value ∙ c.in-Ok.is) c.bootstrap_usable-work.ensures _ _ c.requires.index }
 
 pub returns-in-Err : goal.returns-in-Err
 returns-in-Err c =

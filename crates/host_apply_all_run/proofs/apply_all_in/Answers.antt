@@ -8,21 +8,15 @@ use Rattle.reconstructor_checks.proofs.StateChecks.{rows-ready, trusted}
 use Rattle.host_apply_all_run.proofs.Runs.{runs-start}
 use Rattle.host_apply_all_run.proofs.apply_all_in.Goals as goal
 
-pub mark_rows-requires : goal.mark_rows-requires
-mark_rows-requires c =
+pub invariant_of-lent : goal.invariant_of-lent
+invariant_of-lent c =
     let a = c.args in
-    let b = c.load_book-n in
-    (rows-ready ceiling b.result (memory a.rows.now) (omega arith) (trusted ceiling b.result (memory a.rows.now) (records_in a.segments.now) (rw b.ensures c.requires.ready.usable)), c.requires.places_len_bound)
-
-pub bounds_of-requires : goal.bounds_of-requires
-bounds_of-requires c =
-    let a = c.args in
-    let b = c.load_book-n in
-    rows-ready ceiling b.result (memory a.rows.now) (omega arith) (trusted ceiling b.result (memory a.rows.now) (records_in a.segments.now) (rw b.ensures c.requires.ready.usable))
+    let b = c.load_book-lent in
+    record { lent = rows-ready ceiling b.result (memory a.rows.now) (omega arith) (trusted ceiling b.result (memory a.rows.now) (records_in a.segments.now) (rw b.ensures c.requires.ready.usable)) }
 
 pub apply_all_from-requires : goal.apply_all_from-requires
 apply_all_from-requires c =
     let a = c.args in
-    let b = c.load_book-n in
+    let b = c.load_book-lent in
     let k = c.mark_rows in
     record { runs = runs-start a.state.now a.rows.now a.segments.now _ _ b.result b.ensures c.requires.ready.whole c.requires.ready.book c.requires.ready.usable (omega (arith, k.auto.places, c.requires.places_len_bound)) k.ensures c.bounds_of.ensures; messages_in_bounds = c.requires.ready.answered }
