@@ -32,12 +32,11 @@ pub record PlayedTo : Type 0 where
   pub at : ℕ
   pub started : Segment
 
-abbrev pub turned : Turn → Memory → PlayedTo
-turned t mem = record { number = piece_answer_number t.answer; book = t.book; memory = mem; segment = t.segment; at = t.at; started = t.started }
+abbrev pub unstarted_turn : Answer → Segment → Turn
+unstarted_turn a g = record { answer = a; segment = g; at = day_segments; started = no_segment }
 
--- one that starts no record
-abbrev pub unstarted_turn : Answer → BookReconstructor → Segment → Option Bounds → Turn
-unstarted_turn a b g bounds = record { answer = a; book = b; segment = g; at = day_segments; started = no_segment; bounds = bounds }
+abbrev pub turned : Turn → BookReconstructor → Memory → PlayedTo
+turned t b mem = record { number = piece_answer_number t.answer; book = b; memory = mem; segment = t.segment; at = t.at; started = t.started }
 
 abbrev pub unstarted : ℕ → BookReconstructor → Memory → Segment → PlayedTo
 unstarted k b mem g = record { number = k; book = b; memory = mem; segment = g; at = day_segments; started = no_segment }

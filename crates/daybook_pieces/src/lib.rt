@@ -48,36 +48,36 @@ impl Answer {
     }
 }
 
-// What a piece comes to, beside the rows and the index's places.
+// A book that passes 1, 2 and 3, the memory that it is lent, and an index of its rows.
+#[derive(Drop)]
+pub struct Standing<'a> {
+    pub book: BookReconstructor,
+    pub rows: &'a mut [u64],
+    pub places: &'a mut [u16],
+    pub bounds: Option<Bounds>,
+    pub ghost plays: { Plays book rows.now places.now bounds },
+}
+
+// What a piece comes to, beside how the book stands.
 #[derive(Drop)]
 pub struct Turn {
     pub answer: Answer,
-    pub book: BookReconstructor,
     // The last segment's record; and the record that a snapshot starts, with its place, which is past the list's end where none is started.
     pub segment: Segment,
     pub at: usize,
     pub started: Segment,
-    // Of the rows.
-    pub bounds: Option<Bounds>,
 }
 
 // One that starts no record.
-fn unstarted(
-    answer: Answer,
-    book: BookReconstructor,
-    segment: Segment,
-    bounds: Option<Bounds>,
-) -> Turn
-    ensures { result ≡ unstarted_turn answer book segment bounds }
+fn unstarted(answer: Answer, segment: Segment) -> Turn
+    ensures { result ≡ unstarted_turn answer segment }
 {
     let started = Segment::none();
     Turn {
         answer,
-        book,
         segment,
         at: DAY_SEGMENTS,
         started,
-        bounds,
     }
 }
 
@@ -106,60 +106,52 @@ fn index_after(
 }
 
 // A piece that is to be a snapshot.
-fn play_snapshot(
-    book: BookReconstructor,
-    rows: &mut [u64],
-    places: &mut [u16],
-    bounds: Option<Bounds>,
-    last: Segment,
-    bytes: &[u8],
-) -> Turn
-    requires { Plays book rows.old places.old bounds }
-    ensures played { turned result (memory rows.new) ≡ by_bootstrap_to (bootstrapped_to ceiling book (memory rows.old) day_segments last bytes.now) }
-    ensures plays { Plays result.book rows.new places.new result.bounds }
+fn play_snapshot(standing: &mut Standing<'_>, last: Segment, bytes: &[u8]) -> Turn
+    ensures { turned result standing.new.book (memory standing.new.rows.now) ≡ by_bootstrap_to (bootstrapped_to ceiling standing.old.book (memory standing.old.rows.now) day_segments last bytes.now) }
 {
     match read_snapshot(bytes) {
-        Err(error) => unstarted(Answer::Unread(error), book, last, bounds),
+        Err(error) => unstarted(Answer::Unread(error), last),
         Ok(snapshot) => {
-            let work = bootstrap_usable(book, rows, DAY_SEGMENTS, last, bytes, snapshot);
-            let next = work.book;
+            let before = standing.book;
+            let rows = &mut *standing.rows;
+            let work = bootstrap_usable(before, rows, DAY_SEGMENTS, last, bytes, snapshot);
+            let taken = work.at < DAY_SEGMENTS;
             let lent = LentRows {
                 words: rows,
-                count: next.rows,
+                count: work.book.rows,
             };
-            let bounds = index_after(lent, places, bounds, work.at < DAY_SEGMENTS);
+            let bounds = index_after(lent, standing.places, standing.bounds, taken);
+            standing.book = work.book;
+            standing.bounds = bounds;
             Turn {
                 answer: Answer::Snapshot(work.answer),
-                book: next,
                 segment: work.segment,
                 at: work.at,
                 started: work.started,
-                bounds,
             }
         }
     }
 }
 
 // A piece that is to be a message.
-fn play_message(
-    book: BookReconstructor,
-    rows: &mut [u64],
-    places: &mut [u16],
-    bounds: Option<Bounds>,
-    last: Segment,
-    bytes: &[u8],
-) -> Turn
-    requires { Plays book rows.old places.old bounds }
-    ensures played { turned result (memory rows.new) ≡ play_message_to (read_message bytes.now) book (memory rows.old) last }
-    ensures plays { Plays result.book rows.new places.new result.bounds }
+fn play_message(standing: &mut Standing<'_>, last: Segment, bytes: &[u8]) -> Turn
+    ensures { turned result standing.new.book (memory standing.new.rows.now) ≡ play_message_to (read_message bytes.now) standing.old.book (memory standing.old.rows.now) last }
 {
     match read_message(bytes) {
-        Err(error) => unstarted(Answer::Unread(error), book, last, bounds),
+        Err(error) => unstarted(Answer::Unread(error), last),
         Ok(message) => {
-            let run = apply_in_run(book, rows, last, places, bounds, message);
-            let work = run.work;
-            let answer = Answer::Message(work.answer);
-            unstarted(answer, work.book, work.segment, run.bounds)
+            let run = apply_in_run(
+                standing.book,
+                standing.rows,
+                last,
+                standing.places,
+                standing.bounds,
+                message,
+            );
+            standing.book = run.work.book;
+            standing.bounds = run.bounds;
+            let answer = Answer::Message(run.work.answer);
+            unstarted(answer, run.work.segment)
         }
     }
 }
@@ -175,20 +167,11 @@ fn is_snapshot(bytes: &[u8]) -> bool
 
 // The next piece of the day.
 #[tactic(auto, unfolding(crate::specs::ByValue::played_to))]
-pub fn play(
-    book: BookReconstructor,
-    rows: &mut [u64],
-    places: &mut [u16],
-    bounds: Option<Bounds>,
-    last: Segment,
-    bytes: &[u8],
-) -> Turn
-    requires { Plays book rows.old places.old bounds }
-    ensures played { turned result (memory rows.new) ≡ played_to book (memory rows.old) last bytes.now }
-    ensures plays { Plays result.book rows.new places.new result.bounds }
+pub fn play(standing: &mut Standing<'_>, last: Segment, bytes: &[u8]) -> Turn
+    ensures { turned result standing.new.book (memory standing.new.rows.now) ≡ played_to standing.old.book (memory standing.old.rows.now) last bytes.now }
 {
     if is_snapshot(bytes) {
-        return play_snapshot(book, rows, places, bounds, last, bytes);
+        return play_snapshot(standing, last, bytes);
     }
-    play_message(book, rows, places, bounds, last, bytes)
+    play_message(standing, last, bytes)
 }

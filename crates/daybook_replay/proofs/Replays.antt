@@ -54,13 +54,13 @@ pub data Keeps (sg : List Segment) (n : ℕ) (t : Turn) (sg' : List Segment) (g'
   apart : day_segments ≤ t.at → sg' ≡ sg → g' ≡ t.segment → Keeps sg n t sg' g'
 
 -- what a piece leaves, so held
-pub record After (s : DayBook) (bytes : List ℕ) (t : Turn) (vs : List ℕ) (sg : List Segment) (g : Segment) : Type 0 where
-  pub is : played s bytes ≡ record { number = piece_answer_number t.answer; after = standing_of t.book vs sg g }
+pub record After (s : DayBook) (bytes : List ℕ) (t : Turn) (b' : BookReconstructor) (vs : List ℕ) (sg : List Segment) (g : Segment) : Type 0 where
+  pub is : played s bytes ≡ record { number = piece_answer_number t.answer; after = standing_of b' vs sg g }
   pub full : length sg ≡ day_segments
-  pub none : t.book.segments ≡ 0 → g ≡ no_segment
+  pub none : b'.segments ≡ 0 → g ≡ no_segment
 
-module _ (b : BookReconstructor) (ws vs ps bytes : List ℕ) (bounds : Option Bounds) (sg sg' : List Segment) (g g' : Segment) (t : Turn) (plays : Plays b ws ps bounds) (whole : length sg ≡ day_segments) (unset : b.segments ≡ 0 → g ≡ no_segment)
-    (e : turned t (memory vs) ≡ played_to b (memory ws) g bytes) where
+module _ (b : BookReconstructor) (ws vs ps bytes : List ℕ) (bounds : Option Bounds) (sg sg' : List Segment) (g g' : Segment) (t : Turn) (b' : BookReconstructor) (plays : Plays b ws ps bounds) (whole : length sg ≡ day_segments) (unset : b.segments ≡ 0 → g ≡ no_segment)
+    (e : turned t b' (memory vs) ≡ played_to b (memory ws) g bytes) where
   abbrev n : ℕ
   n = b.segments
 
@@ -74,23 +74,23 @@ module _ (b : BookReconstructor) (ws vs ps bytes : List ℕ) (bounds : Option Bo
   few : n ≤ length sg
   few = omega (arith, whole, segments-lent b (memory ws) day_segments plays.usable.lent)
 
-  starts : Starts b g (turned t (memory vs))
+  starts : Starts b g (turned t b' (memory vs))
   starts = rw e (piece-starts b (memory ws) g bytes plays.usable)
 
   -- the piece, on the list as it is held
-  turn_put : played (standing_of b ws sg g) bytes ≡ record { number = piece_answer_number t.answer; after = record { book = t.book; memory = memory vs; segments = set closed t.at t.started } }
+  turn_put : played (standing_of b ws sg g) bytes ≡ record { number = piece_answer_number t.answer; after = record { book = b'; memory = memory vs; segments = set closed t.at t.started } }
   turn_put =
       played_put b (memory ws) (relast sg n g) (length-relast sg n g ∙ whole) bytes
       ∙ ap (put_back (relast sg n g) n) (ap (λ (x : Segment). played_to b (memory ws) x bytes) (last-held sg n g few unset) ∙ sym e)
-      ∙ ap (λ (l : List Segment). record { number = piece_answer_number t.answer; after = record { book = t.book; memory = memory vs; segments = set l t.at t.started } }) (relast-relast sg n g t.segment)
+      ∙ ap (λ (l : List Segment). record { number = piece_answer_number t.answer; after = record { book = b'; memory = memory vs; segments = set l t.at t.started } }) (relast-relast sg n g t.segment)
 
-  holds : set closed t.at t.started ≡ relast sg' t.book.segments g' → played (standing_of b ws sg g) bytes ≡ record { number = piece_answer_number t.answer; after = standing_of t.book vs sg' g' }
-  holds q = turn_put ∙ ap (λ (l : List Segment). record { number = piece_answer_number t.answer; after = record { book = t.book; memory = memory vs; segments = l } }) q
+  holds : set closed t.at t.started ≡ relast sg' b'.segments g' → played (standing_of b ws sg g) bytes ≡ record { number = piece_answer_number t.answer; after = standing_of b' vs sg' g' }
+  holds q = turn_put ∙ ap (λ (l : List Segment). record { number = piece_answer_number t.answer; after = record { book = b'; memory = memory vs; segments = l } }) q
 
-  pub after : Keeps sg n t sg' g' → After (standing_of b ws sg g) bytes t vs sg' g'
+  pub after : Keeps sg n t sg' g' → After (standing_of b ws sg g) bytes t b' vs sg' g'
   after k = go starts k
     where
-      go : Starts b g (turned t (memory vs)) → Keeps sg n t sg' g' → After (standing_of b ws sg g) bytes t vs sg' g'
+      go : Starts b g (turned t b' (memory vs)) → Keeps sg n t sg' g' → After (standing_of b ws sg g) bytes t b' vs sg' g'
       go (stays at same held) (filed l es eg) = absurd (omega arith)
       go (begins at room more) (apart l es eg) = absurd (omega arith)
       go (stays at same held) (apart l es eg) =
@@ -108,19 +108,12 @@ module _ (b : BookReconstructor) (ws vs ps bytes : List ℕ) (bounds : Option Bo
 
 -- ---- the loop
 
--- the list has room for all that a usable state counts
-pub listed_few : (b : BookReconstructor) (ws ps : List ℕ) (bounds : Option Bounds) → Plays b ws ps bounds → b.segments ≤ day_segments
-listed_few b ws ps bounds p = segments-lent b (memory ws) day_segments p.usable.lent
-
 -- what it keeps, before piece i, counted from 0
-pub record Loops (f ws₀ ps₀ ws ps : List ℕ) (b : BookReconstructor) (bounds : Option Bounds) (g : Segment) (sg : List Segment) (i : ℕ) : Type 0 where
+pub record Loops (f ws : List ℕ) (b : BookReconstructor) (g : Segment) (sg : List Segment) (i : ℕ) : Type 0 where
   pub few : i ≤ piece_count f
-  pub plays : Plays b ws ps bounds
   pub full : length sg ≡ day_segments
   pub none : b.segments ≡ 0 → g ≡ no_segment
   pub rest : day_of f ≡ replayed (standing_of b ws sg g) (i + 1) (pieces_from f i (piece_count f - i))
-  pub rows : length ws ≡ length ws₀
-  pub places : length ps ≡ length ps₀
 
 -- a fresh book passes 1, 2 and 3
 pub fresh-usable : (product : ProductId) → Usable ceiling (fresh_day product).book (memory fresh_rows) day_segments
@@ -133,7 +126,7 @@ fresh-usable product =
     }
 
 -- and no row is to be indexed
-fresh-plays : (product : ProductId) (ps : List ℕ) (bounds : Option Bounds) → length ps ≤ 65536 → Plays (fresh_day product).book fresh_rows ps bounds
+pub fresh-plays : (product : ProductId) (ps : List ℕ) (bounds : Option Bounds) → length ps ≤ 65536 → Plays (fresh_day product).book fresh_rows ps bounds
 unfolding rows_from
 fresh-plays product ps bounds small = record { usable = fresh-usable product; index = record { few = small; marks = refl; within = refl; single = refl } }
 
@@ -141,19 +134,15 @@ pub length_none : length no_segments ≡ day_segments
 unfolding no_segments
 length_none = length-replicate day_segments no_segment
 
-pub loop-start : (f ps : List ℕ) (bounds : Option Bounds) (b : BookReconstructor) → length ps ≤ 65536 → b ≡ (fresh_day (product_of (pieces_of f))).book
-    → Loops f fresh_rows ps fresh_rows ps b bounds no_segment no_segments 0
+pub loop-start : (f : List ℕ) (b : BookReconstructor) → b ≡ (fresh_day (product_of (pieces_of f))).book → Loops f fresh_rows b no_segment no_segments 0
 unfolding day_of pieces_of
-loop-start f ps bounds b small e =
+loop-start f b e =
     rw e
     (record {
       few = omega arith;
-      plays = fresh-plays (product_of (pieces_of f)) ps bounds small;
       full = length_none;
       none = λ z. refl;
       rest = rw (sub-zero (piece_count f)) refl;
-      rows = refl;
-      places = refl;
     })
 
 -- the last record put back
@@ -161,21 +150,20 @@ ended-with : (b : BookReconstructor) (ws : List ℕ) (sg : List Segment) (g : Se
 ended-with b ws sg g stop full =
     ap (λ (l : List Segment). record { book = b; segments = l; stop = stop }) (set_out (relast sg b.segments g) day_segments no_segment (omega (arith, length-relast sg b.segments g)))
 
-module _ (f ws₀ ps₀ ws ps : List ℕ) (b : BookReconstructor) (bounds : Option Bounds) (g : Segment) (sg : List Segment) (i : ℕ) (l : Loops f ws₀ ps₀ ws ps b bounds g sg i) where
+module _ (f ws : List ℕ) (b : BookReconstructor) (g : Segment) (sg : List Segment) (i : ℕ) (l : Loops f ws b g sg i) where
   -- with no piece left the day is over
   pub loop-ends : piece_count f ≤ i → ended_with b sg g None ≡ day_of f
   unfolding replayed
   loop-ends h = ended-with b ws sg g None l.full ∙ sym (l.rest ∙ rw (pieces_none f (piece_count f) i h))
 
-  module _ (vs qs : List ℕ) (t : Turn) (sg' : List Segment) (g' : Segment) (h : i < piece_count f) (a : After (standing_of b ws sg g) (piece_at f i) t vs sg' g') where
+  module _ (vs : List ℕ) (t : Turn) (b' : BookReconstructor) (sg' : List Segment) (g' : Segment) (h : i < piece_count f) (a : After (standing_of b ws sg g) (piece_at f i) t b' vs sg' g') where
     -- the next piece, and what comes after it
-    next : day_of f ≡ cond (is_continued (piece_answer_number t.answer)) (replayed (standing_of t.book vs sg' g') (i + 1 + 1) (pieces_from f (i + 1) (piece_count f - (i + 1)))) (ended_by (standing_of t.book vs sg' g') (Some (record { piece = (i + 1); number = piece_answer_number t.answer })))
+    next : day_of f ≡ cond (is_continued (piece_answer_number t.answer)) (replayed (standing_of b' vs sg' g') (i + 1 + 1) (pieces_from f (i + 1) (piece_count f - (i + 1)))) (ended_by (standing_of b' vs sg' g') (Some (record { piece = (i + 1); number = piece_answer_number t.answer })))
     unfolding replayed
     next = l.rest ∙ rw (pieces-next f (piece_count f) i h, a.is)
 
-    pub loop-stops : is_continued (piece_answer_number t.answer) ≡ false → ended_with t.book sg' g' (Some (record { piece = (i + 1); number = piece_answer_number t.answer })) ≡ day_of f
-    loop-stops q = ended-with t.book vs sg' g' (Some (record { piece = (i + 1); number = piece_answer_number t.answer })) a.full ∙ sym (next ∙ rw q)
+    pub loop-stops : is_continued (piece_answer_number t.answer) ≡ false → ended_with b' sg' g' (Some (record { piece = (i + 1); number = piece_answer_number t.answer })) ≡ day_of f
+    loop-stops q = ended-with b' vs sg' g' (Some (record { piece = (i + 1); number = piece_answer_number t.answer })) a.full ∙ sym (next ∙ rw q)
 
-    pub loop-next : is_continued (piece_answer_number t.answer) ≡ true → Plays t.book vs qs t.bounds → length vs ≡ length ws → length qs ≡ length ps → Loops f ws₀ ps₀ vs qs t.book t.bounds g' sg' (i + 1)
-    loop-next q plays hs hp =
-        record { few = omega arith; plays = plays; full = a.full; none = a.none; rest = next ∙ rw q; rows = hs ∙ l.rows; places = hp ∙ l.places }
+    pub loop-next : is_continued (piece_answer_number t.answer) ≡ true → Loops f vs b' g' sg' (i + 1)
+    loop-next q = record { few = omega arith; full = a.full; none = a.none; rest = next ∙ rw q }

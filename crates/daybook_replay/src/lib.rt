@@ -9,7 +9,7 @@ ghost use Rattle.daybook_replay.specs.ByValue.{ended_with};
 use book::LentRows;
 use book_index_upkeep::bounds_of;
 use daybook_file::DayFile;
-use daybook_pieces::play;
+use daybook_pieces::{Standing, play};
 use daybook_segments::{DAY_SEGMENTS, Day, Stop, filed, no_segments};
 use reconstructor_segments::Segment;
 use reconstructor_state::{BookReconstructor, VenueRules};
@@ -57,34 +57,39 @@ fn replay_pieces(file: DayFile<'_>, rows: &mut [u64], places: &mut [u16]) -> Day
 {
     let count = file.piece_count();
     let rules = VenueRules::with_limits(DAY_LIMIT, DAY_LIMIT);
-    let mut book = BookReconstructor::new(file.first_product(), rules, 0);
-    let mut bounds = Some(bounds_of(LentRows {
+    let book = BookReconstructor::new(file.first_product(), rules, 0);
+    let bounds = Some(bounds_of(LentRows {
         words: rows,
         count: 0,
     }));
+    let mut standing = Standing {
+        book,
+        rows,
+        places,
+        bounds,
+    };
     let mut last = Segment::none();
     let mut segments = no_segments();
     for i in 0..count {
-        let turn = play(book, rows, places, bounds, last, file.piece(i));
+        let listed = standing.book.segments;
+        let turn = play(&mut standing, last, file.piece(i));
         if turn.at < DAY_SEGMENTS {
-            let kept = filed(segments, book.segments, turn.segment, turn.at, turn.started);
+            let kept = filed(segments, listed, turn.segment, turn.at, turn.started);
             segments = kept;
             last = turn.started;
         } else {
             last = turn.segment;
         }
-        book = turn.book;
-        bounds = turn.bounds;
         let number = turn.answer.number();
         if !goes_on(number) {
             let stop = Some(Stop {
                 piece: i + 1,
                 number,
             });
-            return ended(book, segments, last, stop);
+            return ended(standing.book, segments, last, stop);
         }
     }
-    ended(book, segments, last, None)
+    ended(standing.book, segments, last, None)
 }
 
 // The same with memory of its own.

@@ -4,4 +4,4 @@ use Rattle.daybook_replay.proofs.Replays.{Loops}
 use Rattle.daybook_replay.proofs.replay_pieces.Given as goal
 
 abbrev pub invariant-loop-i : goal.invariant-loop-i
-invariant-loop-i l = Loops l.file.bytes.now l.initial.rows l.initial.places l.rows l.places l.book l.bounds l.last l.segments l.i
+invariant-loop-i l = Loops l.file.bytes.now l.standing.rows.now l.standing.book l.last l.segments l.i
