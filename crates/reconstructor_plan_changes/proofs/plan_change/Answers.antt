@@ -2,7 +2,6 @@
 -- is equal to what is left, and nothing is done, or smaller, and a cut of the found row is `cut_rows` by its id (`cut-outcome`).
 use Rattle.std.specs.Prelude.{Some}
 use mathlib.Core.Path.{◌≡◌, ◌∙◌, ap, refl}
-use native.Mathlib.Omega.{arith}
 use borrow.Author.Tests.{eq-eqb, ne_eqb, lt-ltb, le-ltb}
 use mir.Syntax.{w64}
 use mir.Val.{to_z, of_z}

@@ -2,7 +2,6 @@
 -- size and gone at zero, is the line that they leave (`cut-outcome`), under any rules and at any sequence.
 use Rattle.std.specs.Prelude.{None}
 use mathlib.Core.Path.{refl}
-use native.Mathlib.Omega.{arith}
 use borrow.Author.Tests.{ne_eqb, le-ltb}
 use Prim.Native.Nat.{◌-◌}
 use Rattle.reconstructor_counts.specs.declared.Counter.TheVariants.{Matched}

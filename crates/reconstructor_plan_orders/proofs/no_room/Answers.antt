@@ -5,9 +5,3 @@ pub returns-then-rows-rules : goal.returns-then-rows-rules
 returns-then-rows-rules c =
     let a = c.args in
     room_enough a.rules a.rows.words.now a.rows.count a.side a.price c.if-rows-rules.true
-
-pub returns-then-has_level : goal.returns-then-has_level
-returns-then-has_level c = rw (← c.has_level.ensures, c.if-has_level.true)
-
-pub returns : goal.returns
-returns c = rw (← c.has_level.ensures, c.if-has_level.false, c.level_count.ensures)

@@ -2,7 +2,6 @@
 -- and a fill never passes. Past them the found row is removed, which is `cut_rows` by its id to 0.
 use Rattle.std.specs.Prelude.{None}
 use mathlib.Core.Path.{refl}
-use native.Mathlib.Omega.{arith}
 use Rattle.reconstructor_plan.specs.Rules.{event_refusal, done_refusal, event_deed, effect, counter_of}
 use Rattle.reconstructor_state.proofs.Checks.{links}
 use Rattle.reconstructor_plan.proofs.Found.{at_row, row-entry, no_row}
