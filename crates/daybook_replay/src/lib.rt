@@ -2,8 +2,9 @@
 #![tactic(auto)]
 
 ghost use Rattle.std.specs.Prelude.{◌≡◌, ◌≤◌, length};
+ghost use Rattle.daybook_file.specs.DayFile.{pieces_of, product_of};
 ghost use Rattle.daybook_segments.specs.DaySegments.{day_segments};
-ghost use Rattle.daybook_replay.specs.Replay.{fresh_rows, is_continued, day_of};
+ghost use Rattle.daybook_replay.specs.Replay.{fresh_rows, fresh_day, is_continued, day_of};
 ghost use Rattle.daybook_replay.specs.ByValue.{ended_with};
 
 use book::LentRows;
@@ -49,15 +50,21 @@ fn ended(
     }
 }
 
+// The book before the first piece.
+fn fresh_book(file: DayFile<'_>) -> BookReconstructor
+    ensures { result ≡ (fresh_day (product_of (pieces_of file.entry.bytes.now))).book }
+{
+    let rules = VenueRules::with_limits(DAY_LIMIT, DAY_LIMIT);
+    BookReconstructor::new(file.first_product(), rules, 0)
+}
+
 // The replay, with memory for the rows and an index of them. The last segment's record is held apart, and put into the list where a snapshot starts another.
 fn replay_pieces(file: DayFile<'_>, rows: &mut [u64], places: &mut [u16]) -> Day
     requires { (rows.old ≡ fresh_rows) × (length places.old ≤ 65536) }
     ensures replays { result ≡ day_of file.entry.bytes.now }
     ensures few { result.book.segments ≤ day_segments }
 {
-    let count = file.piece_count();
-    let rules = VenueRules::with_limits(DAY_LIMIT, DAY_LIMIT);
-    let book = BookReconstructor::new(file.first_product(), rules, 0);
+    let book = fresh_book(file);
     let bounds = Some(bounds_of(LentRows {
         words: rows,
         count: 0,
@@ -70,7 +77,7 @@ fn replay_pieces(file: DayFile<'_>, rows: &mut [u64], places: &mut [u16]) -> Day
     };
     let mut last = Segment::none();
     let mut segments = no_segments();
-    for i in 0..count {
+    for i in 0..file.piece_count() {
         let listed = standing.book.segments;
         let turn = play(&mut standing, last, file.piece(i));
         if turn.at < DAY_SEGMENTS {

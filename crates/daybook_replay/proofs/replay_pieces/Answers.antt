@@ -8,11 +8,11 @@ use Rattle.daybook_replay.proofs.replay_pieces.Goals.{then-turn-lt-DAY_SEGMENTS,
 
 pub invariant_of-standing : goal.invariant_of-standing
 invariant_of-standing c =
-    rw (c.requires.0, c.new-book.ensures, c.with_limits-rules.ensures, c.first_product.ensures) record { plays = fresh-plays _ c.args.places.now _ c.requires.1 }
+    rw (c.requires.0, c.fresh_book-book.ensures) record { plays = fresh-plays _ c.args.places.now _ c.requires.1 }
 
 pub loop-i-init : goal.loop-i-init
 loop-i-init c =
-    rw (c.requires.0, c.no_segments-segments.ensures, c.none-last.ensures) (loop-start c.args.file.bytes.now c.new-book.result (c.new-book.ensures ∙ rw (c.with_limits-rules.ensures, c.first_product.ensures)))
+    rw (c.requires.0, c.no_segments-segments.ensures, c.none-last.ensures) (loop-start c.args.file.bytes.now c.fresh_book-book.result c.fresh_book-book.ensures)
 
 pub returns-then-not-goes_on-clause-replays : goal.returns-then-not-goes_on-clause-replays
 returns-then-not-goes_on-clause-replays c =
@@ -22,7 +22,7 @@ returns-then-not-goes_on-clause-replays c =
     let t = c.play-turn in
     let v = t.new.standing in
     let j = c.if-turn-lt-DAY_SEGMENTS in
-    let h = rw c.piece_count-count.ensures at c.loop-i-test.true in
+    let h = rw c.piece_count-i-end.ensures at c.loop-i-test.true in
     let e = rw c.piece.ensures at t.ensures in
     let k : Keeps l.segments s.book.segments t.result j.segments j.last = elim j.branch [ then-turn-lt-DAY_SEGMENTS w ↦ filed w.if-turn-lt-DAY_SEGMENTS.true (w.segments-is ∙ w.filed-kept.ensures) w.last-is | else-turn-lt-DAY_SEGMENTS w ↦ apart w.if-turn-lt-DAY_SEGMENTS.false w.segments-is w.last-is ] in
     let a = after s.book s.rows.now v.rows.now s.places.now (piece_at f l.i) s.bounds l.segments j.segments l.last j.last t.result v.book s.plays l.invariant.full l.invariant.none e k in
@@ -36,7 +36,7 @@ loop-i-preserved c =
     let t = c.play-turn in
     let v = t.new.standing in
     let j = c.if-turn-lt-DAY_SEGMENTS in
-    let h = rw c.piece_count-count.ensures at c.loop-i-test.true in
+    let h = rw c.piece_count-i-end.ensures at c.loop-i-test.true in
     let e = rw c.piece.ensures at t.ensures in
     let k : Keeps l.segments s.book.segments t.result j.segments j.last = elim j.branch [ then-turn-lt-DAY_SEGMENTS w ↦ filed w.if-turn-lt-DAY_SEGMENTS.true (w.segments-is ∙ w.filed-kept.ensures) w.last-is | else-turn-lt-DAY_SEGMENTS w ↦ apart w.if-turn-lt-DAY_SEGMENTS.false w.segments-is w.last-is ] in
     let a = after s.book s.rows.now v.rows.now s.places.now (piece_at f l.i) s.bounds l.segments j.segments l.last j.last t.result v.book s.plays l.invariant.full l.invariant.none e k in
@@ -45,4 +45,4 @@ loop-i-preserved c =
 pub returns-clause-replays : goal.returns-clause-replays
 returns-clause-replays c =
     let l = c.loop-i in
-    c.ended-2.ensures ∙ loop-ends c.args.file.bytes.now l.standing.rows.now l.standing.book l.last l.segments l.i l.invariant (rw c.piece_count-count.ensures at c.loop-i-test.false)
+    c.ended-2.ensures ∙ loop-ends c.args.file.bytes.now l.standing.rows.now l.standing.book l.last l.segments l.i l.invariant (rw c.piece_count-i-end.ensures at c.loop-i-test.false)
