@@ -1,11 +1,11 @@
 -- Words loaded one by one.
-use Prim.Native.Nat.{ℕ, zero, suc, ◌+◌, ◌-◌, ◌<◌, ◌≤◌}
-use mathlib.Core.Path.{◌≡◌, refl}
+use Prim.Native.Nat.{ℕ, suc, ◌+◌, ◌-◌, ◌<◌, ◌≤◌}
+use mathlib.Core.Path.{◌≡◌}
 use mathlib.Core.List.{List}
 use lib.ListN.{length, set, take, drop, length-set, length-drop}
 use lib.Seq.{take_all}
 use native.Mathlib.Omega.{arith}
-use borrow.Author.Tests.{lt-ltb, le-ltb}
+use borrow.Author.Tests.{le-ltb}
 use Rattle.recorded.specs.Format.{word_at, loaded_by, loaded}
 
 -- the rest of the bytes is a part that is lent from 8 to the end
@@ -15,12 +15,3 @@ load-next ws i bytes w h l e =
     let left : length ws - i ≡ suc (length (set ws i w) - (i + 1)) = rw (length-set ws i w) (omega arith) in
     let rest : take (length bytes - 8) (drop 8 bytes) ≡ drop 8 bytes = take_all (length bytes - 8) (drop 8 bytes) (rw (length-drop 8 bytes) (omega arith)) in
     rw (rest, left, le-ltb (length bytes) 8 l, e)
-
-pub load-short : (k : ℕ) (ws : List ℕ) (i : ℕ) (bytes : List ℕ) → length bytes < 8 → loaded_by k ws i bytes ≡ ws
-unfolding loaded_by
-load-short zero ws i bytes l = refl
-load-short (suc k) ws i bytes l = rw (lt-ltb (length bytes) 8 l)
-
-pub load_past : (ws : List ℕ) (i : ℕ) (bytes : List ℕ) → length ws ≤ i → loaded ws i bytes ≡ ws
-unfolding loaded_by
-load_past ws i bytes l = let none : length ws - i ≡ 0 = omega arith in rw none

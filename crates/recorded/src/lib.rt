@@ -143,6 +143,7 @@ pub fn read_header(s: &[u8]) -> Header
 }
 
 // The words of `bytes`, from the place `first` on, as far as both reach.
+#[tactic(auto, unfolding(crate::specs::Format::loaded_by))]
 pub fn load(words: &mut [u64], first: usize, bytes: &[u8])
     ensures { words.new ≡ loaded words.old first bytes.now }
 {
