@@ -5,7 +5,7 @@ ghost use Rattle.std.specs.Prelude.{◌≡◌};
 ghost use Rattle.host_apply_all_run.specs.Run.{apply_all_called};
 ghost use Rattle.host_apply_all.specs.ApplyAll.{apply_all_call};
 
-use host_apply_all_run::{apply_all_few, apply_all_many};
+use host_apply_all_run::apply_all_with;
 use host_boundary::boundary;
 use host_records::RECORD_WORDS;
 use host_word_tests::list_short;
@@ -15,6 +15,12 @@ use reconstructor_state::Ceiling;
 
 // Up to so many rows the index of a run has few places, past that many.
 const FEW_ROWS: usize = 256;
+
+// In so many most ids that do not rest find no mark, and they are cleared fast.
+const FEW_PLACES: usize = 4096;
+
+// The same of more rows.
+const MANY_PLACES: usize = 65536;
 
 // Applies the messages in turn: as many calls of `apply`, with the number of each in a word of `answers`.
 pub fn apply_all(
@@ -40,9 +46,9 @@ pub fn apply_all(
                 return 7;
             }
             if book.rows <= FEW_ROWS {
-                apply_all_few(state, rows, segments, messages, answers);
+                apply_all_with::<FEW_PLACES>(state, rows, segments, messages, answers);
             } else {
-                apply_all_many(state, rows, segments, messages, answers);
+                apply_all_with::<MANY_PLACES>(state, rows, segments, messages, answers);
             }
             0
         }

@@ -17,40 +17,31 @@ use host_words_store::{sets_status, store_book};
 use reconstructor_answers::answer_number;
 use reconstructor_apply_run::apply_in_run;
 
-// What a message of the run leaves beside the lent words: its number, and the bounds of the rows.
-#[derive(Clone, Copy)]
-pub struct RunApplied {
-    pub number: u64,
-    pub bounds: Option<Bounds>,
-}
-
-// The next message of the run, whose words are those of one.
+// The next message of the run, whose words are those of one. The answer is its number; the bounds go on to hold the rows.
 fn apply_message(
     state: &mut [u64],
     rows: &mut [u64],
     segments: &mut [u64],
     places: &mut [u16],
-    bounds: Option<Bounds>,
+    bounds: &mut Option<Bounds>,
     message: &[u64],
-) -> RunApplied
-    requires runs_2 { Runs state.old rows.old segments.old places.old bounds }
+) -> u64
+    requires runs_2 { Runs state.old rows.old segments.old places.old bounds.old }
     requires message_words_in_bounds { message_words ≤ length message.now }
     requires message_value { no_message message.now ≡ false }
-    ensures applies { called result.number state.new rows.new segments.new ≡ apply_call state.old rows.old segments.old message.now }
-    ensures runs { Runs state.new rows.new segments.new places.new result.bounds }
+    ensures applies { called result state.new rows.new segments.new ≡ apply_call state.old rows.old segments.old message.now }
+    ensures runs { Runs state.new rows.new segments.new places.new bounds.new }
 {
     let book = load_book(state);
     let message = load_message(message);
     let count = book.segments;
     let last = last_record(segments, count);
-    let run = apply_in_run(book, rows, last, places, bounds, message);
+    let run = apply_in_run(book, rows, last, places, *bounds, message);
     rewrite_record(segments, count, run.work.segment);
     let answer = run.work.answer;
     store_book(state, run.work.book, sets_status(answer));
-    RunApplied {
-        number: answer_number(answer),
-        bounds: run.bounds,
-    }
+    *bounds = run.bounds;
+    answer_number(answer)
 }
 
 // The next message of the run: 4, and nothing changed, where its words are those of no message.
@@ -59,16 +50,16 @@ pub fn apply_next(
     rows: &mut [u64],
     segments: &mut [u64],
     places: &mut [u16],
-    bounds: Option<Bounds>,
+    bounds: &mut Option<Bounds>,
     message: &[u64],
-) -> RunApplied
-    requires runs_2 { Runs state.old rows.old segments.old places.old bounds }
+) -> u64
+    requires runs_2 { Runs state.old rows.old segments.old places.old bounds.old }
     requires message_words_in_bounds { message_words ≤ length message.now }
-    ensures applies { called result.number state.new rows.new segments.new ≡ apply_call state.old rows.old segments.old message.now }
-    ensures runs { Runs state.new rows.new segments.new places.new result.bounds }
+    ensures applies { called result state.new rows.new segments.new ≡ apply_call state.old rows.old segments.old message.now }
+    ensures runs { Runs state.new rows.new segments.new places.new bounds.new }
 {
     if no_message(message) {
-        return RunApplied { number: 4, bounds };
+        return 4;
     }
     apply_message(state, rows, segments, places, bounds, message)
 }

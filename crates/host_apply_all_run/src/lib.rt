@@ -11,12 +11,6 @@ use host_apply_all_message::apply_next;
 use host_words::load_book;
 use piece::MESSAGE_WORDS;
 
-// In so many most ids that do not rest find no mark, and they are cleared fast.
-const FEW_PLACES: usize = 4096;
-
-// The same of more rows.
-const MANY_PLACES: usize = 65536;
-
 // The run, from an index of the rows on.
 fn apply_all_from(
     state: &mut [u64],
@@ -25,69 +19,45 @@ fn apply_all_from(
     messages: &[u64],
     answers: &mut [u64],
     places: &mut [u16],
-    first: Option<Bounds>,
+    mut bounds: Option<Bounds>,
 )
-    requires runs { Runs state.old rows.old segments.old places.old first }
+    requires runs { Runs state.old rows.old segments.old places.old bounds }
     requires messages_in_bounds { count_of messages.now ≤ length answers.old }
     ensures { apply_all_called 0 state.new rows.new segments.new answers.new ≡ after_run answers.old (run (count_of messages.now) state.old rows.old segments.old messages.now) }
 {
     let count = messages.len() / MESSAGE_WORDS;
-    let mut bounds = first;
     for i in 0..count {
         let at = MESSAGE_WORDS * i;
-        let done = apply_next(state, rows, segments, places, bounds, &messages[at..]);
-        answers[i] = done.number;
-        bounds = done.bounds;
+        answers[i] = apply_next(state, rows, segments, places, &mut bounds, &messages[at..]);
     }
 }
 
-// The run, with memory for an index of the rows.
-fn apply_all_in(
+// The run, with memory of its own for an index of the rows: few places where few rows ask for no more, since they are cleared at each call.
+pub fn apply_all_with<const PLACES: usize>(
     state: &mut [u64],
     rows: &mut [u64],
     segments: &mut [u64],
     messages: &[u64],
     answers: &mut [u64],
-    places: &mut [u16],
 )
     requires ready { Ready state.old rows.old segments.old messages.now answers.old }
-    requires places_len_bound { length places.old ≤ 65536 }
+    requires places_in_bounds { PLACES ≤ 65536 }
     ensures { apply_all_called 0 state.new rows.new segments.new answers.new ≡ after_run answers.old (run (count_of messages.now) state.old rows.old segments.old messages.now) }
 {
     let lent = LentRows {
         words: rows,
         count: load_book(state).rows,
     };
-    book_index_upkeep::mark_rows(lent, places);
+    let mut places = [0u16; PLACES];
+    book_index_upkeep::mark_rows(lent, &mut places);
     let bounds = Some(book_index_upkeep::bounds_of(lent));
-    apply_all_from(state, rows, segments, messages, answers, places, bounds)
-}
-
-// The same with memory of its own: little where few rows ask for it, since it is cleared at each call.
-pub fn apply_all_few(
-    state: &mut [u64],
-    rows: &mut [u64],
-    segments: &mut [u64],
-    messages: &[u64],
-    answers: &mut [u64],
-)
-    requires { Ready state.old rows.old segments.old messages.now answers.old }
-    ensures { apply_all_called 0 state.new rows.new segments.new answers.new ≡ after_run answers.old (run (count_of messages.now) state.old rows.old segments.old messages.now) }
-{
-    let mut places = [0u16; FEW_PLACES];
-    apply_all_in(state, rows, segments, messages, answers, &mut places)
-}
-
-pub fn apply_all_many(
-    state: &mut [u64],
-    rows: &mut [u64],
-    segments: &mut [u64],
-    messages: &[u64],
-    answers: &mut [u64],
-)
-    requires { Ready state.old rows.old segments.old messages.now answers.old }
-    ensures { apply_all_called 0 state.new rows.new segments.new answers.new ≡ after_run answers.old (run (count_of messages.now) state.old rows.old segments.old messages.now) }
-{
-    let mut places = [0u16; MANY_PLACES];
-    apply_all_in(state, rows, segments, messages, answers, &mut places)
+    apply_all_from(
+        state,
+        rows,
+        segments,
+        messages,
+        answers,
+        &mut places,
+        bounds,
+    )
 }

@@ -1,5 +1,6 @@
--- The tests come in the definition's order: the boundary, then 1, 2 or 3 of the loaded state, then 7. Past all of them the words are `Ready`, and the run with
--- few places and the run with many promise the same.
+-- The tests come in the definition's order: the boundary, then 1, 2 or 3 of the loaded state, then 7. Past all of them the words are `Ready`, and the run
+-- promises the same with few places and with many.
+use Rattle.std.proofs.Common.{rules}
 use mathlib.Core.Path.{sym, ap, ◌∙◌}
 use Prim.Native.Nat.{ℕ}
 use mathlib.Core.Bool.{Bool, false}
@@ -23,17 +24,17 @@ load_book-book-requires c = (passed c.args.state.now (extent_of (memory c.args.r
 pub returns-then-answers-messages : goal.returns-then-answers-messages
 returns-then-answers-messages c = run_short c.args.state.now c.args.rows.now c.args.segments.now c.args.messages.now c.args.answers.now (passed c.args.state.now (extent_of (memory c.args.rows.now)) (less c.args.state.now c.args.segments.now) false false (eq-eqb _ _ (sym (c.boundary-stop.ensures ∙ ap (λ (x : Bool). boundary c.args.state.now (extent_of (memory c.args.rows.now)) x false false) c.list_short-less.ensures) ∙ c.if-stop-ne0.false))) c.load_book-book.result c.load_book-book.ensures c.own_checks.result c.own_checks.ensures c.in-Ok.is c.if-answers-messages.true
 
-pub apply_all_few-requires : goal.apply_all_few-requires
-apply_all_few-requires c = ready c.args.state.now c.args.rows.now c.args.segments.now c.args.messages.now c.args.answers.now (passed c.args.state.now (extent_of (memory c.args.rows.now)) (less c.args.state.now c.args.segments.now) false false (eq-eqb _ _ (sym (c.boundary-stop.ensures ∙ ap (λ (x : Bool). boundary c.args.state.now (extent_of (memory c.args.rows.now)) x false false) c.list_short-less.ensures) ∙ c.if-stop-ne0.false))) c.load_book-book.result c.load_book-book.ensures c.own_checks.result c.own_checks.ensures c.in-Ok.is c.if-answers-messages.false
+pub apply_all_with-requires : goal.apply_all_with-requires
+apply_all_with-requires c = record { ready = ready c.args.state.now c.args.rows.now c.args.segments.now c.args.messages.now c.args.answers.now (passed c.args.state.now (extent_of (memory c.args.rows.now)) (less c.args.state.now c.args.segments.now) false false (eq-eqb _ _ (sym (c.boundary-stop.ensures ∙ ap (λ (x : Bool). boundary c.args.state.now (extent_of (memory c.args.rows.now)) x false false) c.list_short-less.ensures) ∙ c.if-stop-ne0.false))) c.load_book-book.result c.load_book-book.ensures c.own_checks.result c.own_checks.ensures c.in-Ok.is c.if-answers-messages.false; places_in_bounds = search rules }
 
-pub apply_all_many-requires : goal.apply_all_many-requires
-apply_all_many-requires c = ready c.args.state.now c.args.rows.now c.args.segments.now c.args.messages.now c.args.answers.now (passed c.args.state.now (extent_of (memory c.args.rows.now)) (less c.args.state.now c.args.segments.now) false false (eq-eqb _ _ (sym (c.boundary-stop.ensures ∙ ap (λ (x : Bool). boundary c.args.state.now (extent_of (memory c.args.rows.now)) x false false) c.list_short-less.ensures) ∙ c.if-stop-ne0.false))) c.load_book-book.result c.load_book-book.ensures c.own_checks.result c.own_checks.ensures c.in-Ok.is c.if-answers-messages.false
+pub apply_all_with-requires-else-book-le-FEW_ROWS : goal.apply_all_with-requires-else-book-le-FEW_ROWS
+apply_all_with-requires-else-book-le-FEW_ROWS c = record { ready = ready c.args.state.now c.args.rows.now c.args.segments.now c.args.messages.now c.args.answers.now (passed c.args.state.now (extent_of (memory c.args.rows.now)) (less c.args.state.now c.args.segments.now) false false (eq-eqb _ _ (sym (c.boundary-stop.ensures ∙ ap (λ (x : Bool). boundary c.args.state.now (extent_of (memory c.args.rows.now)) x false false) c.list_short-less.ensures) ∙ c.if-stop-ne0.false))) c.load_book-book.result c.load_book-book.ensures c.own_checks.result c.own_checks.ensures c.in-Ok.is c.if-answers-messages.false; places_in_bounds = search rules }
 
 pub returns-in-Err : goal.returns-in-Err
 returns-in-Err c = run-refused c.args.state.now c.args.rows.now c.args.segments.now c.args.messages.now c.args.answers.now (passed c.args.state.now (extent_of (memory c.args.rows.now)) (less c.args.state.now c.args.segments.now) false false (eq-eqb _ _ (sym (c.boundary-stop.ensures ∙ ap (λ (x : Bool). boundary c.args.state.now (extent_of (memory c.args.rows.now)) x false false) c.list_short-less.ensures) ∙ c.if-stop-ne0.false))) c.load_book-book.result c.load_book-book.ensures c.own_checks.result c.own_checks.ensures _ c.in-Err.is _ c.number.ensures
 
 pub returns-then-book-le-FEW_ROWS : goal.returns-then-book-le-FEW_ROWS
-returns-then-book-le-FEW_ROWS c = run-passed c.args.state.now c.args.rows.now c.args.segments.now c.args.messages.now c.args.answers.now (passed c.args.state.now (extent_of (memory c.args.rows.now)) (less c.args.state.now c.args.segments.now) false false (eq-eqb _ _ (sym (c.boundary-stop.ensures ∙ ap (λ (x : Bool). boundary c.args.state.now (extent_of (memory c.args.rows.now)) x false false) c.list_short-less.ensures) ∙ c.if-stop-ne0.false))) c.load_book-book.result c.load_book-book.ensures c.own_checks.result c.own_checks.ensures _ c.in-Ok.is c.if-answers-messages.false c.apply_all_few.ensures
+returns-then-book-le-FEW_ROWS c = run-passed c.args.state.now c.args.rows.now c.args.segments.now c.args.messages.now c.args.answers.now (passed c.args.state.now (extent_of (memory c.args.rows.now)) (less c.args.state.now c.args.segments.now) false false (eq-eqb _ _ (sym (c.boundary-stop.ensures ∙ ap (λ (x : Bool). boundary c.args.state.now (extent_of (memory c.args.rows.now)) x false false) c.list_short-less.ensures) ∙ c.if-stop-ne0.false))) c.load_book-book.result c.load_book-book.ensures c.own_checks.result c.own_checks.ensures _ c.in-Ok.is c.if-answers-messages.false c.apply_all_with.ensures
 
 pub returns-else-book-le-FEW_ROWS : goal.returns-else-book-le-FEW_ROWS
-returns-else-book-le-FEW_ROWS c = run-passed c.args.state.now c.args.rows.now c.args.segments.now c.args.messages.now c.args.answers.now (passed c.args.state.now (extent_of (memory c.args.rows.now)) (less c.args.state.now c.args.segments.now) false false (eq-eqb _ _ (sym (c.boundary-stop.ensures ∙ ap (λ (x : Bool). boundary c.args.state.now (extent_of (memory c.args.rows.now)) x false false) c.list_short-less.ensures) ∙ c.if-stop-ne0.false))) c.load_book-book.result c.load_book-book.ensures c.own_checks.result c.own_checks.ensures _ c.in-Ok.is c.if-answers-messages.false c.apply_all_many.ensures
+returns-else-book-le-FEW_ROWS c = run-passed c.args.state.now c.args.rows.now c.args.segments.now c.args.messages.now c.args.answers.now (passed c.args.state.now (extent_of (memory c.args.rows.now)) (less c.args.state.now c.args.segments.now) false false (eq-eqb _ _ (sym (c.boundary-stop.ensures ∙ ap (λ (x : Bool). boundary c.args.state.now (extent_of (memory c.args.rows.now)) x false false) c.list_short-less.ensures) ∙ c.if-stop-ne0.false))) c.load_book-book.result c.load_book-book.ensures c.own_checks.result c.own_checks.ensures _ c.in-Ok.is c.if-answers-messages.false c.apply_all_with-else-book-le-FEW_ROWS.ensures

@@ -6,7 +6,7 @@ use Rattle.host_apply_all_message.proofs.apply_message.Goals as goal
 pub apply_in_run-run-requires : goal.apply_in_run-run-requires
 apply_in_run-run-requires c =
     let a = c.args in
-    let l = loaded a.state.now a.rows.now a.segments.now a.places.now a.bounds c.load_book-book.result c.load_book-book.ensures c.requires.runs_2 in
+    let l = loaded a.state.now a.rows.now a.segments.now a.places.now a.bounds.now c.load_book-book.result c.load_book-book.ensures c.requires.runs_2 in
     record { trusted = l.0; indexed = l.1 }
 
 pub store_book-requires : goal.store_book-requires

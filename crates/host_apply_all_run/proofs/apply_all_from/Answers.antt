@@ -11,14 +11,14 @@ use Rattle.host_apply_all_run.proofs.apply_all_from.Goals as goal
 pub loop-i-init : goal.loop-i-init
 loop-i-init c =
     let a = c.args in
-    loop-start a.state.now a.rows.now a.segments.now a.messages.now a.answers.now a.places.now a.first c.requires.runs
+    loop-start a.state.now a.rows.now a.segments.now a.messages.now a.answers.now a.places.now a.bounds c.requires.runs
 
-pub apply_next-done-requires : goal.apply_next-done-requires
-apply_next-done-requires c = record { runs_2 = c.loop-i.invariant.runs; message_words_in_bounds = rw (message-at c.args.messages.now c.loop-i.i) (omega (arith, length-drop (21 * c.loop-i.i) c.args.messages.now, c.loop-i-test.true)) }
+pub apply_next-requires : goal.apply_next-requires
+apply_next-requires c = record { runs_2 = c.loop-i.invariant.runs; message_words_in_bounds = rw (message-at c.args.messages.now c.loop-i.i) (omega (arith, length-drop (21 * c.loop-i.i) c.args.messages.now, c.loop-i-test.true)) }
 
 pub loop-i-preserved : goal.loop-i-preserved
 loop-i-preserved c =
-    let k = c.apply_next-done in
+    let k = c.apply_next in
     let l = c.loop-i in
     let a = c.args in
     loop-next a.state.now a.rows.now a.segments.now a.messages.now a.answers.now a.places.now l.state l.rows l.segments l.answers l.places l.bounds l.i l.invariant
