@@ -22,13 +22,6 @@ view-refused (views.Unusable e) out = state-refused e out
 view-refused views.NotBootstrapped out = refl
 view-refused (views.Invalidated i) out = refl
 
-pub view-lastly : (e : ViewError) → lastly (view_error_told e).number ≡ (view_error_told e).number
-view-lastly (views.Unusable LimitAboveCeiling) = refl
-view-lastly (views.Unusable LentTooShort) = refl
-view-lastly (views.Unusable MalformedBook) = refl
-view-lastly views.NotBootstrapped = refl
-view-lastly (views.Invalidated i) = refl
-
 pub state-lastly : (e : StateError) → lastly (state_error_number e) ≡ state_error_number e
 state-lastly LimitAboveCeiling = refl
 state-lastly LentTooShort = refl

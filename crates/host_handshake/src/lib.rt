@@ -13,6 +13,7 @@ use reconstructor_segments::SegmentName;
 pub const HANDSHAKE_WORDS: usize = 4;
 
 // The handshake that words are.
+#[tactic(auto, unfolding(crate::specs::HandshakeWords::handshake_of))]
 pub fn load_handshake(words: &[u64]) -> Handshake
     requires { handshake_words ≤ length words.now }
     ensures { result ≡ handshake_of words.now }
@@ -33,6 +34,7 @@ fn ended_word(ended: bool) -> u64
     if ended { 1 } else { 0 }
 }
 
+#[tactic(auto, unfolding(crate::specs::HandshakeWords::handshake_left))]
 pub fn store_handshake(words: &mut [u64], handshake: Handshake)
     requires { handshake_words ≤ length words.old }
     ensures { words.new ≡ handshake_left words.old handshake }

@@ -1,7 +1,0 @@
-use Rattle.host_answers_segment.proofs.store_invalidation.Goals as goal
-
-pub returns-in-Some : goal.returns-in-Some
-returns-in-Some c = rw c.in-Some.is (rw c.kind_words-words.ensures at c.give.ensures)
-
-pub returns-in-None : goal.returns-in-None
-returns-in-None c = rw c.in-None.is
