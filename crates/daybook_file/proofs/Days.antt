@@ -1,17 +1,18 @@
 -- What the rules of a day file give: every pair and every piece lies in the file.
 -- Assumes nothing.
 use Prim.Native.Nat.{ℕ, zero, suc, ◌+◌, ◌-◌, ◌≤◌, ◌<◌}
-use native.Mathlib.Nat.{add-zero}
+use native.Mathlib.Nat.{add-zero, sub-zero}
 use native.Mathlib.Omega.{arith}
 use mathlib.Core.Path.{◌≡◌, ap}
-use mathlib.Core.Bool.{true, ◌&&◌}
+use mathlib.Core.Bool.{true, ◌&&◌, cond}
 use mathlib.Core.List.{List, ◌∷◌, []}
 use borrow.Author.Tests.{leb-true}
 use lib.Dec.{leb, ltb}
 use lib.ListN.{length, take, drop}
 use Rattle.laws.proofs.Bools.{and_yes}
 use Rattle.piece.specs.Bytes.{part}
-use Rattle.daybook_file.specs.DayFile.{day_bytes, piece_count, pair_at, offset_of, length_of, end_of, before_next, in_order, in_place, day_shaped, piece_at, pieces_from}
+use Rattle.piece.specs.Piece.{product_id_at}
+use Rattle.daybook_file.specs.DayFile.{day_bytes, piece_count, pair_at, offset_of, length_of, end_of, before_next, in_order, in_place, day_shaped, piece_at, pieces_from, pieces_of, no_product, product_of}
 
 -- the piece d places behind piece i ends within the file: by the next one's offset, which is not past the next one's end
 in-order-ends : (f : List ℕ) (k i d : ℕ) → in_order f i k ≡ true → d ≤ k → end_of f (i + d) ≤ length f
@@ -61,3 +62,9 @@ pieces-next f n i h = rw (let e : n - i ≡ suc (n - (i + 1)) = omega arith in e
 pub pieces_none : (f : List ℕ) (n i : ℕ) → n ≤ i → pieces_from f i (n - i) ≡ []
 unfolding pieces_from
 pieces_none f n i h = rw (let e : n - i ≡ 0 = omega arith in e)
+
+-- ---- the first piece's product
+
+pub product-some : (f : List ℕ) → 0 < piece_count f → product_of (pieces_of f) ≡ cond (ltb (length (piece_at f 0)) 17) no_product (product_id_at (piece_at f 0) 1)
+unfolding product_of pieces_of
+product-some f h = rw (rw (sub-zero (piece_count f)) at (pieces-next f (piece_count f) 0 h))

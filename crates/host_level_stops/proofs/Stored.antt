@@ -9,7 +9,8 @@ use mathlib.Core.List.{List}
 use borrow.Author.Tests.{ltb-true, ltb-false, le-ltb, eq-eqb, eqb-true, eqb-false}
 use lib.Dec.{eqb, ltb}
 use lib.ListN.{length, get_or}
-use Rattle.host_words.specs.Block.{book_of}
+use Rattle.book.specs.Memory.{memory, extent_of}
+use Rattle.host_words.specs.Block.{state_words, book_of}
 use Rattle.laws.proofs.Bools.{absurd_bool}
 use Rattle.message.specs.Told.{Told}
 use Rattle.reconstructor_view.specs.declared.ViewError.{ViewError}
@@ -19,9 +20,11 @@ use Rattle.reconstructor_reads.specs.declared.OutputTooSmall.{OutputTooSmall}
 use Rattle.reconstructor_reads.specs.declared.LevelError.{LevelError}
 use Rattle.reconstructor_reads.specs.Numbers.{level_told}
 use Rattle.reconstructor_reads.specs.LevelReads.{Shows, LevelRead, leaves, level_shown, level_read}
+use Rattle.host_word_tests.specs.WordTests.{no_bit}
 use Rattle.host_boundary.specs.Boundary.{unless_turned}
+use Rattle.host_boundary.proofs.Passed.{passed}
 use Rattle.host_answers.specs.Answers.{Answered, answered, told_in, lastly}
-use Rattle.host_level_stops.specs.Stops.{LevelCall, level_called, counted, after_level, stop_of}
+use Rattle.host_level_stops.specs.Stops.{LevelCall, level_called, counted, after_level, level_boundary, stop_of}
 
 some-lastly : (k : ℕ) → lastly k ≡ 0 → ⊥
 some-lastly k h = go (eqb k 0) refl h
@@ -46,6 +49,11 @@ through turned count number h = go (eqb turned 0) (ltb count 1) refl refl h
     go true true p q z = absurd (some-lastly number z)
     go true false p q z = (eqb-true turned 0 p, ltb-false count 1 q)
     go false y p q z = absurd_bool (sym (eq-eqb turned 0 z) ∙ p)
+
+-- where nothing does, the state can be loaded
+pub whole-past : (st ws : List ℕ) (scratch side count number k : ℕ) → k ≡ stop_of (level_boundary st ws scratch side) count number → k ≡ 0 → state_words ≤ length st
+whole-past st ws scratch side count number k e z =
+    (passed st (extent_of (memory ws)) (ltb scratch (get_or st 3 0)) false (no_bit side) (eq-eqb _ 0 (through (level_boundary st ws scratch side) count number (sym e ∙ z)).0)).whole
 
 -- a call that comes to what it is turned away for, or to what is told without a word for the number of entries, comes to what stands in its way
 module _ (turned number : ℕ) (sc out count : List ℕ) (c : LevelCall) where

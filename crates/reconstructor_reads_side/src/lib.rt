@@ -20,7 +20,7 @@ pub fn level_read(
     width: usize,
     out: &mut [u64],
 ) -> Result<usize, LevelError>
-    requires { ((l2_words ≤ width) × (width ≤ profile_words)) }
+    requires { (l2_words ≤ width) × (width ≤ profile_words) }
     ensures { leaves result scratch.new out.new ≡ read_of top.limit book (memory rows.now) scratch.old (levels_content width side (orders_of (memory rows.now) book.rows)) out.old }
 {
     let most = book.rules.max_orders;
