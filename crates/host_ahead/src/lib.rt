@@ -9,8 +9,9 @@ use host_ahead_words::store_ahead;
 use host_boundary::boundary;
 use host_estimate_words::{ESTIMATE_WORDS, load_estimate};
 use host_word_tests::no_estimate;
-use host_words::load_book;
+use host_words::{StateWords, load_book};
 
+#[tactic(auto, unfolding(host_estimates::specs::Estimates::ahead_call, host_boundary::specs::Boundary::boundary))]
 pub fn volume_ahead(
     state: &[u64],
     rows: &[u64],
@@ -25,6 +26,7 @@ pub fn volume_ahead(
     if stop != 0 {
         return stop;
     }
-    let answer = queue_ahead::volume_ahead(load_book(state), rows, load_estimate(estimate), ahead);
+    let book = load_book(StateWords { words: state });
+    let answer = queue_ahead::volume_ahead(book, rows, load_estimate(estimate), ahead);
     store_ahead(out, answer)
 }

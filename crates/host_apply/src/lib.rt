@@ -6,10 +6,10 @@ ghost use Rattle.std.specs.Prelude.{◌≡◌};
 ghost use Rattle.host_calls.specs.Calls.{called, apply_call};
 
 use host_call_boundaries::apply_boundary;
-use host_messages::load_message;
+use host_messages::{MessageWords, load_message};
 use host_records::{RECORD_WORDS, last_record};
 use host_records_store::rewrite_record;
-use host_words::load_book;
+use host_words::{StateWords, load_book};
 use host_words_store::{sets_status, store_book};
 use reconstructor_answers::answer_number;
 
@@ -21,10 +21,11 @@ pub fn apply(state: &mut [u64], rows: &mut [u64], segments: &mut [u64], message:
     if stop != 0 {
         return stop;
     }
-    let book = load_book(state);
+    let book = load_book(StateWords { words: state });
     let count = book.segments;
     let last = last_record(segments, count);
-    let work = reconstructor_apply::apply_by_value(book, rows, lent, last, load_message(message));
+    let message = load_message(MessageWords { words: message });
+    let work = reconstructor_apply::apply_by_value(book, rows, lent, last, message);
     rewrite_record(segments, count, work.segment);
     store_book(state, work.book, sets_status(work.answer));
     answer_number(work.answer)

@@ -9,7 +9,7 @@ use host_apply_all_run::apply_all_with;
 use host_boundary::boundary;
 use host_records::RECORD_WORDS;
 use host_word_tests::list_short;
-use host_words::load_book;
+use host_words::{StateWords, load_book};
 use piece::MESSAGE_WORDS;
 use reconstructor_state::Ceiling;
 
@@ -38,7 +38,7 @@ pub fn apply_all(
     if stop != 0 {
         return stop;
     }
-    let book = load_book(state);
+    let book = load_book(StateWords { words: state });
     match reconstructor_checks::own_checks(Ceiling::VENUE, book, rows, lent) {
         Err(why) => why.number(),
         Ok(()) => {

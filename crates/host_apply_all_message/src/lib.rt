@@ -9,10 +9,10 @@ ghost use Rattle.host_apply_all_message.specs.Runs.{Runs};
 
 use book_index::Bounds;
 use host_message_tests::no_message;
-use host_messages::load_message;
+use host_messages::{MessageWords, load_message};
 use host_records::last_record;
 use host_records_store::rewrite_record;
-use host_words::load_book;
+use host_words::{StateWords, load_book};
 use host_words_store::{sets_status, store_book};
 use reconstructor_answers::answer_number;
 use reconstructor_apply_run::apply_in_run;
@@ -32,8 +32,8 @@ fn apply_message(
     ensures applies { called result state.new rows.new segments.new ≡ apply_call state.old rows.old segments.old message.now }
     ensures runs { Runs state.new rows.new segments.new places.new bounds.new }
 {
-    let book = load_book(state);
-    let message = load_message(message);
+    let book = load_book(StateWords { words: state });
+    let message = load_message(MessageWords { words: message });
     let count = book.segments;
     let last = last_record(segments, count);
     let run = apply_in_run(book, rows, last, places, *bounds, message);

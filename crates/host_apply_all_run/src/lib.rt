@@ -8,7 +8,7 @@ ghost use Rattle.host_apply_all_run.specs.Run.{run, count_of, apply_all_called, 
 use book::LentRows;
 use book_index::Bounds;
 use host_apply_all_message::apply_next;
-use host_words::load_book;
+use host_words::{StateWords, load_book};
 use piece::MESSAGE_WORDS;
 
 // The run, from an index of the rows on.
@@ -46,7 +46,7 @@ pub fn apply_all_with<const PLACES: usize>(
 {
     let lent = LentRows {
         words: rows,
-        count: load_book(state).rows,
+        count: load_book(StateWords { words: state }).rows,
     };
     let mut places = [0u16; PLACES];
     book_index_upkeep::mark_rows(lent, &mut places);

@@ -9,7 +9,7 @@ use host_boundary::boundary;
 use host_records::{RECORD_WORDS, last_record};
 use host_records_store::{put_record, rewrite_record};
 use host_word_tests::list_short;
-use host_words::load_book;
+use host_words::{StateWords, load_book};
 use host_words_store::store_book;
 use reconstructor_bootstrap::snapshot_number;
 
@@ -22,7 +22,7 @@ pub fn bootstrap(state: &mut [u64], rows: &mut [u64], segments: &mut [u64], byte
     if stop != 0 {
         return stop;
     }
-    let book = load_book(state);
+    let book = load_book(StateWords { words: state });
     let count = book.segments;
     let last = last_record(segments, count);
     let work = reconstructor_bootstrap_work::bootstrap_by_value(book, rows, lent, last, bytes);

@@ -1,12 +1,15 @@
 -- An estimate from words: as `estimate_values` of crate `queue` gives them. Any words are read as some estimate; a side or an anchor that none has is turned away
 -- before (crate `host_boundary`). The last word does not matter of a hypothetical order.
-use Rattle.std.specs.Prelude.{ℕ, cond, List, eqb, get_or}
+use Rattle.std.specs.Prelude.{ℕ, cond, List, eqb, get_or, Result, Ok, Err}
 use Rattle.std.specs.Int.{w64}
 use Rattle.std.proofs.Common.{to_z}
 use Rattle.piece.specs.Piece.{side_of}
 use Rattle.queue.specs.declared.Anchor.{Anchor}
 use Rattle.queue.specs.declared.Anchor.TheVariants.{Hypothetical, Own}
 use Rattle.queue.specs.declared.QueueEstimate.{QueueEstimate}
+use Rattle.queue.specs.declared.QueueError.{QueueError}
+use Rattle.queue.specs.Numbers.{queue_error_told}
+use Rattle.message.specs.Told.{Told, told}
 
 -- words of an estimate
 abbrev pub estimate_words : ℕ
@@ -25,3 +28,8 @@ estimate_of ws =
       segment = record { number = get_or ws 2 0; place = get_or ws 3 0 };
       anchor = anchor_of ws;
     }
+
+-- what a queue call that answers these values tells
+abbrev pub values_told : Result (List ℕ) QueueError → Told
+values_told (Ok values) = told 0 values
+values_told (Err e) = queue_error_told e

@@ -1,10 +1,10 @@
 // An estimate from words and as words; the layout is beside the answers' numbers (crate `queue`, specs/Numbers.antt).
 #![tactic(auto)]
 
-ghost use Rattle.std.specs.Prelude.{◌≡◌, [], ◌∷◌, ◌≤◌, length};
-ghost use Rattle.queue.specs.Numbers.{anchor_values, estimate_values, estimate_told};
-ghost use Rattle.host_answers.specs.Answers.{answered, given, told_in};
-ghost use Rattle.host_estimate_words.specs.Estimates.{estimate_words, anchor_of, estimate_of};
+ghost use Rattle.std.specs.Prelude.{◌≡◌, ◌≤◌, length};
+ghost use Rattle.queue.specs.Numbers.{estimate_values, estimate_told};
+ghost use Rattle.host_answers.specs.Answers.{answered, told_in};
+ghost use Rattle.host_estimate_words.specs.Estimates.{estimate_words, anchor_of, estimate_of, values_told};
 
 use host_answers::give;
 use host_words::{bits, load_side, side_word, signed};
@@ -15,6 +15,7 @@ use reconstructor_segments::SegmentName;
 // Words of an estimate.
 pub const ESTIMATE_WORDS: usize = 8;
 
+#[tactic(auto, unfolding(crate::specs::Estimates::anchor_of))]
 fn load_anchor(words: &[u64]) -> Anchor
     requires { estimate_words ≤ length words.now }
     ensures { result ≡ anchor_of words.now }
@@ -35,6 +36,7 @@ fn load_anchor(words: &[u64]) -> Anchor
 }
 
 // The estimate that eight words are.
+#[tactic(auto, unfolding(crate::specs::Estimates::estimate_of))]
 pub fn load_estimate(words: &[u64]) -> QueueEstimate
     requires { estimate_words ≤ length words.now }
     ensures { result ≡ estimate_of words.now }
@@ -50,63 +52,47 @@ pub fn load_estimate(words: &[u64]) -> QueueEstimate
     }
 }
 
-// The words of an anchor.
-#[derive(Clone, Copy)]
-struct AnchorWords {
-    kind: u64,
-    first: u64,
-    second: u64,
-    third: u64,
-}
-
-fn anchor_words(anchor: Anchor) -> AnchorWords
-    ensures { result.kind ∷ result.first ∷ result.second ∷ result.third ∷ [] ≡ anchor_values anchor }
+fn estimate_values(estimate: QueueEstimate) -> [u64; ESTIMATE_WORDS]
+    ensures { result ≡ estimate_values estimate }
 {
-    match anchor {
-        Anchor::Hypothetical { orders, created_at } => AnchorWords {
-            kind: 0,
-            first: orders as u64,
-            second: created_at,
-            third: 0,
-        },
+    let side = side_word(estimate.side);
+    let price = bits(estimate.price);
+    let number = estimate.segment.number;
+    let place = estimate.segment.place as u64;
+    match estimate.anchor {
+        Anchor::Hypothetical { orders, created_at } => {
+            [side, price, number, place, 0, orders as u64, created_at, 0]
+        }
         Anchor::Own {
             order_id,
             entered_at,
-        } => AnchorWords {
-            kind: 1,
-            first: order_id.high,
-            second: order_id.low,
-            third: entered_at,
-        },
+        } => {
+            [
+                side,
+                price,
+                number,
+                place,
+                1,
+                order_id.high,
+                order_id.low,
+                entered_at,
+            ]
+        }
     }
 }
 
-fn give_estimate(out: &mut [u64], estimate: QueueEstimate) -> u64
-    ensures { answered result out.new ≡ given (estimate_values estimate) out.old }
+// What a queue call answers: a success's values as words, or the number of a refusal.
+pub fn store_values<const N: usize>(out: &mut [u64], answer: Result<[u64; N], QueueError>) -> u64
+    ensures { answered result out.new ≡ told_in (values_told answer.entry) out.old }
 {
-    let first = side_word(estimate.side);
-    let price = bits(estimate.price);
-    let last = anchor_words(estimate.anchor);
-    give(
-        out,
-        &[
-            first,
-            price,
-            estimate.segment.number,
-            estimate.segment.place as u64,
-            last.kind,
-            last.first,
-            last.second,
-            last.third,
-        ],
-    )
+    match answer {
+        Ok(values) => give(out, &values),
+        Err(why) => why.number(),
+    }
 }
 
 pub fn store_estimate(out: &mut [u64], answer: Result<QueueEstimate, QueueError>) -> u64
     ensures { answered result out.new ≡ told_in (estimate_told answer) out.old }
 {
-    match answer {
-        Ok(estimate) => give_estimate(out, estimate),
-        Err(why) => why.number(),
-    }
+    store_values(out, answer.map(estimate_values))
 }

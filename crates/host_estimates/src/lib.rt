@@ -11,7 +11,7 @@ use host_answers::unwritten;
 use host_boundary::boundary;
 use host_estimate_words::{ESTIMATE_WORDS, store_estimate};
 use host_word_tests::no_bit;
-use host_words::{load_book, load_side, signed};
+use host_words::{StateWords, load_book, load_side, signed};
 use message::L3Side;
 use reconstructor_state::BookReconstructor;
 
@@ -34,6 +34,7 @@ fn estimate_of(
     store_estimate(estimate, answer)
 }
 
+#[tactic(auto, unfolding(crate::specs::Estimates::estimate_call, host_boundary::specs::Boundary::boundary))]
 pub fn queue_estimate(
     state: &[u64],
     rows: &[u64],
@@ -49,7 +50,7 @@ pub fn queue_estimate(
         return stop;
     }
     estimate_of(
-        load_book(state),
+        load_book(StateWords { words: state }),
         rows,
         load_side(side),
         signed(price),

@@ -7,9 +7,10 @@ ghost use Rattle.host_estimates.specs.Estimates.{own_call};
 
 use host_boundary::boundary;
 use host_estimate_words::store_estimate;
-use host_words::load_book;
+use host_words::{StateWords, load_book};
 use message::OrderId;
 
+#[tactic(auto, unfolding(host_estimates::specs::Estimates::own_call, host_boundary::specs::Boundary::boundary))]
 pub fn queue_estimate_own(
     state: &[u64],
     rows: &[u64],
@@ -27,6 +28,7 @@ pub fn queue_estimate_own(
         high: id_high,
         low: id_low,
     };
-    let answer = queue_estimates_own::queue_estimate_own(load_book(state), rows, id);
+    let book = load_book(StateWords { words: state });
+    let answer = queue_estimates_own::queue_estimate_own(book, rows, id);
     store_estimate(estimate, answer)
 }

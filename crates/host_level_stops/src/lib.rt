@@ -14,7 +14,7 @@ use host_answers::unwritten;
 use host_answers_levels::store_level;
 use host_boundary::boundary;
 use host_word_tests::{no_bit, scratch_short};
-use host_words::{load_book, load_side};
+use host_words::{StateWords, load_book, load_side};
 use message::L3Side;
 use reconstructor_reads::LevelError;
 use reconstructor_state::BookReconstructor;
@@ -48,7 +48,7 @@ where
     if stop != 0 {
         return stop;
     }
-    let book = load_book(state);
+    let book = load_book(StateWords { words: state });
     if count.is_empty() {
         return unwritten(book, rows, less);
     }

@@ -6,12 +6,14 @@ ghost use Rattle.host_message_tests.specs.MessageTests.{no_done, no_change, no_m
 
 use host_word_tests::word;
 
+#[tactic(auto, unfolding(crate::specs::MessageTests::no_done))]
 fn no_done(words: &[u64]) -> bool
     ensures { result ≡ no_done words.now }
 {
     (word(words, 7) > 1) | ((word(words, 8) > 1) | ((word(words, 10) > 1) | (word(words, 11) > 1)))
 }
 
+#[tactic(auto, unfolding(crate::specs::MessageTests::no_change))]
 fn no_change(words: &[u64]) -> bool
     ensures { result ≡ no_change words.now }
 {
@@ -21,6 +23,7 @@ fn no_change(words: &[u64]) -> bool
 }
 
 // Whether the words are those of no message.
+#[tactic(auto, unfolding(crate::specs::MessageTests::no_message))]
 pub fn no_message(words: &[u64]) -> bool
     ensures { result ≡ no_message words.now }
 {

@@ -10,6 +10,13 @@ use host_message_values::{change_reason_word, done_reason_word, is_present, opti
 use host_words::{bits, load_side, side_word, signed};
 use message::{ChangeReason, DoneReason, L3Event, L3Message, L3Side, OrderId, ProductId};
 
+// Words that are enough for a message.
+#[derive(Clone, Copy)]
+pub struct MessageWords<'a> {
+    pub words: &'a [u64],
+    pub ghost whole: { message_words ≤ length words.now },
+}
+
 // ---- an event's words: its fields in the Rust's order, and 0 past the last
 
 fn received_words(order_id: OrderId, side: L3Side) -> [u64; 16]
@@ -190,11 +197,12 @@ pub fn event_words(event: L3Event) -> [u64; 16]
             )
         }
         L3Event::Unsupported { kind } => {
-            [kind as u64, 0, 0, 0, 0, 0, 0, 0, 0, 0, 0, 0, 0, 0, 0, 0]
+            [u64::from(kind), 0, 0, 0, 0, 0, 0, 0, 0, 0, 0, 0, 0, 0, 0, 0]
         }
     }
 }
 
+#[tactic(auto, unfolding(host_words::specs::Block::optional_of))]
 fn load_optional(present: u64, word: u64) -> Option<i64>
     ensures { result ≡ optional_of present word }
 {
@@ -204,6 +212,7 @@ fn load_optional(present: u64, word: u64) -> Option<i64>
     }
 }
 
+#[tactic(auto, unfolding(piece::specs::Piece::done_reason_of))]
 fn load_done_reason(word: u64) -> DoneReason
     ensures { result ≡ done_reason_of word }
 {
@@ -213,6 +222,7 @@ fn load_done_reason(word: u64) -> DoneReason
     }
 }
 
+#[tactic(auto, unfolding(piece::specs::Piece::change_reason_of))]
 fn load_change_reason(word: u64) -> ChangeReason
     ensures { result ≡ change_reason_of word }
 {
@@ -222,10 +232,11 @@ fn load_change_reason(word: u64) -> ChangeReason
     }
 }
 
-fn load_received(words: &[u64]) -> L3Event
-    requires { message_words ≤ length words.now }
-    ensures { result ≡ received_of words.now }
+#[tactic(auto, unfolding(host_words::specs::Block::received_of))]
+fn load_received(message: MessageWords) -> L3Event
+    ensures { result ≡ received_of message.entry.words.now }
 {
+    let words = message.words;
     L3Event::Received {
         order_id: OrderId {
             high: words[5],
@@ -235,10 +246,11 @@ fn load_received(words: &[u64]) -> L3Event
     }
 }
 
-fn load_open(words: &[u64]) -> L3Event
-    requires { message_words ≤ length words.now }
-    ensures { result ≡ open_of words.now }
+#[tactic(auto, unfolding(host_words::specs::Block::open_of))]
+fn load_open(message: MessageWords) -> L3Event
+    ensures { result ≡ open_of message.entry.words.now }
 {
+    let words = message.words;
     L3Event::Open {
         order_id: OrderId {
             high: words[5],
@@ -250,10 +262,11 @@ fn load_open(words: &[u64]) -> L3Event
     }
 }
 
-fn load_done(words: &[u64]) -> L3Event
-    requires { message_words ≤ length words.now }
-    ensures { result ≡ done_of words.now }
+#[tactic(auto, unfolding(host_words::specs::Block::done_of))]
+fn load_done(message: MessageWords) -> L3Event
+    ensures { result ≡ done_of message.entry.words.now }
 {
+    let words = message.words;
     L3Event::Done {
         order_id: OrderId {
             high: words[5],
@@ -266,10 +279,11 @@ fn load_done(words: &[u64]) -> L3Event
     }
 }
 
-fn load_match(words: &[u64]) -> L3Event
-    requires { message_words ≤ length words.now }
-    ensures { result ≡ match_of words.now }
+#[tactic(auto, unfolding(host_words::specs::Block::match_of))]
+fn load_match(message: MessageWords) -> L3Event
+    ensures { result ≡ match_of message.entry.words.now }
 {
+    let words = message.words;
     L3Event::Match {
         maker_id: OrderId {
             high: words[5],
@@ -285,10 +299,11 @@ fn load_match(words: &[u64]) -> L3Event
     }
 }
 
-fn load_change(words: &[u64]) -> L3Event
-    requires { message_words ≤ length words.now }
-    ensures { result ≡ change_of words.now }
+#[tactic(auto, unfolding(host_words::specs::Block::change_of))]
+fn load_change(message: MessageWords) -> L3Event
+    ensures { result ≡ change_of message.entry.words.now }
 {
+    let words = message.words;
     L3Event::Change {
         order_id: OrderId {
             high: words[5],
@@ -305,17 +320,18 @@ fn load_change(words: &[u64]) -> L3Event
     }
 }
 
-fn load_event(words: &[u64]) -> L3Event
-    requires { message_words ≤ length words.now }
-    ensures { result ≡ event_of words.now }
+#[tactic(auto, unfolding(host_words::specs::Block::event_of))]
+fn load_event(message: MessageWords) -> L3Event
+    ensures { result ≡ event_of message.entry.words.now }
 {
+    let words = message.words;
     let kind = words[0];
     match kind {
-        1 => load_received(words),
-        2 => load_open(words),
-        3 => load_done(words),
-        4 => load_match(words),
-        5 => load_change(words),
+        1 => load_received(message),
+        2 => load_open(message),
+        3 => load_done(message),
+        4 => load_match(message),
+        5 => load_change(message),
         _ => L3Event::Unsupported {
             kind: (words[5] % 4294967296) as u32,
         },
@@ -323,10 +339,11 @@ fn load_event(words: &[u64]) -> L3Event
 }
 
 // The message that 21 words are: any words are one.
-pub fn load_message(words: &[u64]) -> L3Message
-    requires { message_words ≤ length words.now }
-    ensures { result ≡ message_of words.now }
+#[tactic(auto, unfolding(host_words::specs::Block::message_of))]
+pub fn load_message(message: MessageWords) -> L3Message
+    ensures { result ≡ message_of message.entry.words.now }
 {
+    let words = message.words;
     L3Message {
         product_id: ProductId {
             high: words[1],
@@ -334,6 +351,6 @@ pub fn load_message(words: &[u64]) -> L3Message
         },
         sequence: words[3],
         time_us: words[4],
-        event: load_event(words),
+        event: load_event(message),
     }
 }

@@ -7,9 +7,10 @@ ghost use Rattle.host_new_handshake.specs.NewHandshake.{handshake_call};
 
 use host_boundary::own_boundary;
 use host_handshake::{HANDSHAKE_WORDS, store_handshake};
-use host_words::load_book;
+use host_words::{StateWords, load_book};
 use reconstructor_handshake::Handshake;
 
+#[tactic(auto, unfolding(crate::specs::NewHandshake::handshake_call, host_boundary::specs::Boundary::own_boundary))]
 pub fn new_handshake(state: &[u64], handshake: &mut [u64]) -> u64
     ensures { answered result handshake.new ≡ handshake_call state.now handshake.old }
 {
@@ -20,6 +21,7 @@ pub fn new_handshake(state: &[u64], handshake: &mut [u64]) -> u64
     if handshake.len() < HANDSHAKE_WORDS {
         return 7;
     }
-    store_handshake(handshake, Handshake::new(load_book(state)));
+    let book = load_book(StateWords { words: state });
+    store_handshake(handshake, Handshake::new(book));
     0
 }

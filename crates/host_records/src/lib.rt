@@ -29,6 +29,7 @@ fn get_record(words: &[u64], i: usize) -> Segment
 }
 
 // The record at a place; zeros where there is none.
+#[tactic(auto, using(crate::proofs::Records::read_record, crate::proofs::Records::read_none))]
 pub fn record_at(words: &[u64], place: usize) -> Segment
     ensures { result ≡ segment_at (records_of words.now) place }
 {

@@ -10,6 +10,7 @@ use laws::put;
 use reconstructor_segments::Segment;
 
 // Writes record `i`.
+#[tactic(auto, unfolding(host_records::specs::Records::set_record))]
 fn set_record(words: &mut [u64], i: usize, segment: Segment)
     requires { record_words * i + record_words ≤ length words.old }
     ensures { words.new ≡ set_record words.old i segment }
@@ -31,6 +32,7 @@ fn set_record(words: &mut [u64], i: usize, segment: Segment)
 }
 
 // Writes the record at a place; nothing where there is none.
+#[tactic(auto, using(host_records::proofs::Records::put_record))]
 pub fn put_record(words: &mut [u64], place: usize, segment: Segment)
     ensures { words.new ≡ relaid words.old (set (records_of words.old) place segment) }
 {

@@ -7,10 +7,10 @@ ghost use Rattle.host_calls.specs.Calls.{step_called, step_call};
 
 use host_call_boundaries::step_boundary;
 use host_handshake::{load_handshake, step_sets_status, store_handshake};
-use host_messages::load_message;
+use host_messages::{MessageWords, load_message};
 use host_records::{RECORD_WORDS, last_record};
 use host_records_store::rewrite_record;
-use host_words::load_book;
+use host_words::{StateWords, load_book};
 use host_words_store::store_book;
 
 pub fn step(
@@ -27,11 +27,12 @@ pub fn step(
     if stop != 0 {
         return stop;
     }
-    let book = load_book(state);
+    let book = load_book(StateWords { words: state });
     let count = book.segments;
     let last = last_record(segments, count);
     let hands = load_handshake(handshake);
-    let work = hands.step_by_value(book, rows, lent, last, load_message(message));
+    let message = load_message(MessageWords { words: message });
+    let work = hands.step_by_value(book, rows, lent, last, message);
     rewrite_record(segments, count, work.segment);
     store_book(state, work.book, step_sets_status(work.answer));
     store_handshake(handshake, work.handshake);

@@ -11,7 +11,7 @@ ghost use Rattle.host_views.specs.Views.{last_call, best_call, audit_call};
 
 use host_answers_best::{store_best, store_last};
 use host_boundary::boundary;
-use host_words::load_book;
+use host_words::{StateWords, load_book};
 use reconstructor_state::BookReconstructor;
 use reconstructor_view::audited_number;
 
@@ -29,7 +29,7 @@ where
     if stop != 0 {
         return stop;
     }
-    let answer = read(load_book(state), rows);
+    let answer = read(load_book(StateWords { words: state }), rows);
     store(out, answer)
 }
 
@@ -58,6 +58,7 @@ pub fn audit(state: &[u64], rows: &[u64]) -> u64
     if stop != 0 {
         return stop;
     }
-    let answer = reconstructor_view_valid::audit(load_book(state), rows);
+    let book = load_book(StateWords { words: state });
+    let answer = reconstructor_view_valid::audit(book, rows);
     audited_number(answer)
 }

@@ -7,7 +7,7 @@ ghost use Rattle.host_views_segment.specs.SegmentViews.{invalidation_call, segme
 
 use host_answers_segment::{store_invalidation, store_segment};
 use host_boundary::own_boundary;
-use host_words::load_book;
+use host_words::{StateWords, load_book};
 
 pub fn invalidation(state: &[u64], out: &mut [u64]) -> u64
     ensures { answered result out.new ≡ invalidation_call state.now out.old }
@@ -16,7 +16,8 @@ pub fn invalidation(state: &[u64], out: &mut [u64]) -> u64
     if stop != 0 {
         return stop;
     }
-    store_invalidation(out, reconstructor_view::invalidation(load_book(state)))
+    let book = load_book(StateWords { words: state });
+    store_invalidation(out, reconstructor_view::invalidation(book))
 }
 
 pub fn segment(state: &[u64], segments: &[u64], place: usize, out: &mut [u64]) -> u64
@@ -26,7 +27,7 @@ pub fn segment(state: &[u64], segments: &[u64], place: usize, out: &mut [u64]) -
     if stop != 0 {
         return stop;
     }
-    let book = load_book(state);
+    let book = load_book(StateWords { words: state });
     let lent = segments.len() / host_records::RECORD_WORDS;
     let record = host_records::record_at(segments, place);
     let answer = reconstructor_view_segment::segment_by_value(book, lent, place, record);

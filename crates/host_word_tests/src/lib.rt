@@ -45,6 +45,7 @@ fn no_reason(kind: u64, detail: u64) -> bool
 }
 
 // Whether the words are those of no book's state.
+#[tactic(auto, unfolding(crate::specs::WordTests::no_book))]
 pub fn no_book(words: &[u64]) -> bool
     ensures { result ≡ no_book words.now }
 {

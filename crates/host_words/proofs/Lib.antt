@@ -1,4 +1,3 @@
-pub mod Signs
 pub mod Puts
 pub mod Blocks
 pub mod RoundTrip

@@ -16,17 +16,20 @@ use reconstructor_state::{BookReconstructor, SizeDecrease, Status, VenueRules};
 // The words of a state.
 pub const STATE_WORDS: usize = 27;
 
+// Words that are enough for a state.
+#[derive(Clone, Copy)]
+pub struct StateWords<'a> {
+    pub words: &'a [u64],
+    pub ghost whole: { state_words ≤ length words.now },
+}
+
 // ---- a value as words
 
 // An amount's 64 bits.
 pub fn bits(amount: i64) -> u64
     ensures { result ≡ of_z w64 amount }
 {
-    if amount < 0 {
-        u64::MAX - (!amount as u64)
-    } else {
-        amount as u64
-    }
+    amount.cast_unsigned()
 }
 
 pub fn side_word(side: L3Side) -> u64
@@ -40,6 +43,7 @@ pub fn side_word(side: L3Side) -> u64
 
 // ---- a state from its block
 
+#[tactic(auto, unfolding(crate::specs::Block::size_decrease_of))]
 fn load_size_decrease(word: u64) -> SizeDecrease
     ensures { result ≡ size_decrease_of word }
 {
@@ -49,6 +53,7 @@ fn load_size_decrease(word: u64) -> SizeDecrease
     }
 }
 
+#[tactic(auto, unfolding(crate::specs::Block::reason_of))]
 fn load_reason(word: u64) -> MalformedReason
     ensures { result ≡ reason_of word }
 {
@@ -58,6 +63,7 @@ fn load_reason(word: u64) -> MalformedReason
     }
 }
 
+#[tactic(auto, unfolding(crate::specs::Block::discrepancy_of))]
 fn load_discrepancy(kind: u64, detail: u64) -> Discrepancy
     ensures { result ≡ discrepancy_of kind detail }
 {
@@ -80,6 +86,7 @@ fn load_discrepancy(kind: u64, detail: u64) -> Discrepancy
     }
 }
 
+#[tactic(auto, unfolding(crate::specs::Block::kind_of))]
 fn load_kind(kind: u64, first: u64, second: u64, detail: u64) -> InvalidationKind
     ensures { result ≡ kind_of kind first second detail }
 {
@@ -97,6 +104,7 @@ fn load_kind(kind: u64, first: u64, second: u64, detail: u64) -> InvalidationKin
     }
 }
 
+#[tactic(auto, unfolding(crate::specs::Block::status_of))]
 fn load_status(word: u64, last: u64, offending: u64, kind: InvalidationKind) -> Status
     ensures { result ≡ status_of word last offending kind }
 {
@@ -111,10 +119,10 @@ fn load_status(word: u64, last: u64, offending: u64, kind: InvalidationKind) -> 
     }
 }
 
-pub fn load_rules(words: &[u64]) -> VenueRules
-    requires { state_words ≤ length words.now }
-    ensures { result ≡ rules_of words.now }
+pub fn load_rules(state: StateWords) -> VenueRules
+    ensures { result ≡ rules_of state.entry.words.now }
 {
+    let words = state.words;
     VenueRules {
         size_decrease: load_size_decrease(words[2]),
         max_orders: words[3] as usize,
@@ -122,10 +130,10 @@ pub fn load_rules(words: &[u64]) -> VenueRules
     }
 }
 
-fn load_counts(words: &[u64]) -> MessageCounts
-    requires { state_words ≤ length words.now }
-    ensures { result ≡ counts_of words.now }
+fn load_counts(state: StateWords) -> MessageCounts
+    ensures { result ≡ counts_of state.entry.words.now }
 {
+    let words = state.words;
     MessageCounts {
         received: words[15],
         open: words[16],
@@ -143,10 +151,11 @@ fn load_counts(words: &[u64]) -> MessageCounts
 }
 
 // The state that a block is: any words are one.
-pub fn load_book(words: &[u64]) -> BookReconstructor
-    requires { state_words ≤ length words.now }
-    ensures { result ≡ book_of words.now }
+#[tactic(auto, unfolding(crate::specs::Block::book_of))]
+pub fn load_book(state: StateWords) -> BookReconstructor
+    ensures { result ≡ book_of state.entry.words.now }
 {
+    let words = state.words;
     let product_id = ProductId {
         high: words[0],
         low: words[1],
@@ -154,19 +163,19 @@ pub fn load_book(words: &[u64]) -> BookReconstructor
     let kind = load_kind(words[9], words[10], words[11], words[12]);
     BookReconstructor {
         product_id,
-        rules: load_rules(words),
+        rules: load_rules(state),
         number: words[5],
         status: load_status(words[6], words[7], words[8], kind),
         rows: words[13] as usize,
         segments: words[14] as usize,
-        counts: load_counts(words),
+        counts: load_counts(state),
     }
 }
 
 // ---- a block from its state
 
 // An invalidation's reason: its number, the two sequences of 20 and 21, and which 38 it is.
-#[derive(Clone, Copy)]
+#[derive(Clone, Copy, Default)]
 pub struct KindWords {
     pub number: u64,
     pub first: u64,
@@ -174,7 +183,7 @@ pub struct KindWords {
     pub detail: u64,
 }
 
-#[derive(Clone, Copy)]
+#[derive(Clone, Copy, Default)]
 pub struct StatusWords {
     pub status: u64,
     pub last: u64,
@@ -185,30 +194,28 @@ pub struct StatusWords {
 pub fn kind_words(kind: InvalidationKind) -> KindWords
     ensures { result ≡ kind_words kind }
 {
+    let number = kind.number();
     match kind {
         InvalidationKind::Gap { expected, got } => KindWords {
-            number: 20,
+            number,
             first: expected,
             second: got,
-            detail: 0,
+            ..KindWords::default()
         },
         InvalidationKind::OutOfOrderOrDuplicate { last, got } => KindWords {
-            number: 21,
+            number,
             first: last,
             second: got,
-            detail: 0,
+            ..KindWords::default()
         },
         InvalidationKind::SequenceOverflow => KindWords {
-            number: 22,
-            first: 0,
-            second: 0,
-            detail: 0,
+            number,
+            ..KindWords::default()
         },
         InvalidationKind::Discrepancy(d) => KindWords {
-            number: d.number(),
-            first: 0,
-            second: 0,
+            number,
             detail: d.detail(),
+            ..KindWords::default()
         },
     }
 }
@@ -216,33 +223,19 @@ pub fn kind_words(kind: InvalidationKind) -> KindWords
 pub fn status_words(status: Status) -> StatusWords
     ensures { result ≡ status_words status }
 {
-    let none = KindWords {
-        number: 0,
-        first: 0,
-        second: 0,
-        detail: 0,
-    };
     match status {
-        Status::Empty => StatusWords {
-            status: 0,
-            last: 0,
-            offending: 0,
-            kind: none,
-        },
+        Status::Empty => StatusWords::default(),
         Status::Valid { last_seq } => StatusWords {
             status: 1,
             last: last_seq,
-            offending: 0,
-            kind: none,
+            ..StatusWords::default()
         },
-        Status::Invalidated(i) => {
-            StatusWords {
-                status: 2,
-                last: i.last_good_seq,
-                offending: i.first_offending_seq,
-                kind: kind_words(i.kind),
-            }
-        }
+        Status::Invalidated(i) => StatusWords {
+            status: 2,
+            last: i.last_good_seq,
+            offending: i.first_offending_seq,
+            kind: kind_words(i.kind),
+        },
     }
 }
 
@@ -252,13 +245,10 @@ pub fn status_words(status: Status) -> StatusWords
 pub fn signed(word: u64) -> i64
     ensures { result ≡ to_z w64 word }
 {
-    if word < 9223372036854775808 {
-        word as i64
-    } else {
-        !((u64::MAX - word) as i64)
-    }
+    word.cast_signed()
 }
 
+#[tactic(auto, unfolding(piece::specs::Piece::side_of))]
 pub fn load_side(word: u64) -> L3Side
     ensures { result ≡ side_of word }
 {

@@ -18,11 +18,11 @@ pub returns-then-stop-ne0 : goal.returns-then-stop-ne0
 unfolding apply_call
 returns-then-stop-ne0 c = turned-away _ _ (λ (n : ℕ). called n c.args.state.now c.args.rows.now c.args.segments.now) _ c.apply_boundary-stop.ensures c.if-stop-ne0.true
 
-pub load_book-book-requires : goal.load_book-book-requires
-load_book-book-requires c = (passed c.args.state.now (extent_of (memory c.args.rows.now)) (less c.args.state.now c.args.segments.now) (ltb (length c.args.message.now) 21) (no_message c.args.message.now) (eq-eqb _ _ (sym c.apply_boundary-stop.ensures ∙ c.if-stop-ne0.false))).whole
+pub invariant_of-load_book : goal.invariant_of-load_book
+invariant_of-load_book c = record { whole = (passed c.args.state.now (extent_of (memory c.args.rows.now)) (less c.args.state.now c.args.segments.now) (ltb (length c.args.message.now) 21) (no_message c.args.message.now) (eq-eqb _ _ (sym c.apply_boundary-stop.ensures ∙ c.if-stop-ne0.false))).whole }
 
-pub load_message-requires : goal.load_message-requires
-load_message-requires c = ltb-false (length c.args.message.now) 21 (passed c.args.state.now (extent_of (memory c.args.rows.now)) (less c.args.state.now c.args.segments.now) (ltb (length c.args.message.now) 21) (no_message c.args.message.now) (eq-eqb _ _ (sym c.apply_boundary-stop.ensures ∙ c.if-stop-ne0.false))).full
+pub invariant_of-load_message : goal.invariant_of-load_message
+invariant_of-load_message c = record { whole = ltb-false (length c.args.message.now) 21 (passed c.args.state.now (extent_of (memory c.args.rows.now)) (less c.args.state.now c.args.segments.now) (ltb (length c.args.message.now) 21) (no_message c.args.message.now) (eq-eqb _ _ (sym c.apply_boundary-stop.ensures ∙ c.if-stop-ne0.false))).full }
 
 pub store_book-requires : goal.store_book-requires
 store_book-requires c = (passed c.args.state.now (extent_of (memory c.args.rows.now)) (less c.args.state.now c.args.segments.now) (ltb (length c.args.message.now) 21) (no_message c.args.message.now) (eq-eqb _ _ (sym c.apply_boundary-stop.ensures ∙ c.if-stop-ne0.false))).whole
@@ -31,5 +31,5 @@ pub returns : goal.returns
 unfolding apply_call
 returns c =
     goes_on _ _ (λ (n : ℕ). called n c.args.state.now c.args.rows.now c.args.segments.now) _ _ c.apply_boundary-stop.ensures c.if-stop-ne0.false
-    (rw (c.answer_number.ensures, c.store_book.ensures, c.sets_status.ensures, ← c.load_book-book.ensures, ← c.load_message.ensures)
-    (apply-leaves ceiling c.args.state.now c.args.rows.now c.args.segments.now c.load_book-book.result c.last_record-last.result c.last_record-last.ensures c.load_message.result c.apply_by_value-work.result _ _ c.apply_by_value-work.ensures c.rewrite_record.ensures))
+    (rw (c.answer_number.ensures, c.store_book.ensures, c.sets_status.ensures, ← c.load_book-book.ensures, ← c.load_message-message.ensures)
+    (apply-leaves ceiling c.args.state.now c.args.rows.now c.args.segments.now c.load_book-book.result c.last_record-last.result c.last_record-last.ensures c.load_message-message.result c.apply_by_value-work.result _ _ c.apply_by_value-work.ensures c.rewrite_record.ensures))

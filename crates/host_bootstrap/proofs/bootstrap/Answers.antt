@@ -17,8 +17,8 @@ pub returns-then-stop-ne0 : goal.returns-then-stop-ne0
 unfolding bootstrap_call
 returns-then-stop-ne0 c = turned-away _ _ (λ (n : ℕ). called n c.args.state.now c.args.rows.now c.args.segments.now) _ (c.boundary-stop.ensures ∙ ap (λ (x : Bool). boundary c.args.state.now (extent_of (memory c.args.rows.now)) x false false) c.list_short-less.ensures) c.if-stop-ne0.true
 
-pub load_book-book-requires : goal.load_book-book-requires
-load_book-book-requires c = (passed c.args.state.now (extent_of (memory c.args.rows.now)) (less c.args.state.now c.args.segments.now) false false (eq-eqb _ _ (sym (c.boundary-stop.ensures ∙ ap (λ (x : Bool). boundary c.args.state.now (extent_of (memory c.args.rows.now)) x false false) c.list_short-less.ensures) ∙ c.if-stop-ne0.false))).whole
+pub invariant_of-load_book : goal.invariant_of-load_book
+invariant_of-load_book c = record { whole = (passed c.args.state.now (extent_of (memory c.args.rows.now)) (less c.args.state.now c.args.segments.now) false false (eq-eqb _ _ (sym (c.boundary-stop.ensures ∙ ap (λ (x : Bool). boundary c.args.state.now (extent_of (memory c.args.rows.now)) x false false) c.list_short-less.ensures) ∙ c.if-stop-ne0.false))).whole }
 
 pub store_book-requires : goal.store_book-requires
 store_book-requires c = (passed c.args.state.now (extent_of (memory c.args.rows.now)) (less c.args.state.now c.args.segments.now) false false (eq-eqb _ _ (sym (c.boundary-stop.ensures ∙ ap (λ (x : Bool). boundary c.args.state.now (extent_of (memory c.args.rows.now)) x false false) c.list_short-less.ensures) ∙ c.if-stop-ne0.false))).whole

@@ -21,14 +21,14 @@ pub returns-then-stop-ne0 : goal.returns-then-stop-ne0
 unfolding step_call
 returns-then-stop-ne0 c = turned-away _ _ (λ (n : ℕ). step_called n c.args.state.now c.args.rows.now c.args.segments.now c.args.handshake.now) _ c.step_boundary-stop.ensures c.if-stop-ne0.true
 
-pub load_book-book-requires : goal.load_book-book-requires
-load_book-book-requires c = (passed c.args.state.now (extent_of (memory c.args.rows.now)) (less c.args.state.now c.args.segments.now) (ltb (length c.args.handshake.now) 4 || ltb (length c.args.message.now) 21) (no_handshake c.args.handshake.now || no_message c.args.message.now) (eq-eqb _ _ (sym c.step_boundary-stop.ensures ∙ c.if-stop-ne0.false))).whole
+pub invariant_of-load_book : goal.invariant_of-load_book
+invariant_of-load_book c = record { whole = (passed c.args.state.now (extent_of (memory c.args.rows.now)) (less c.args.state.now c.args.segments.now) (ltb (length c.args.handshake.now) 4 || ltb (length c.args.message.now) 21) (no_handshake c.args.handshake.now || no_message c.args.message.now) (eq-eqb _ _ (sym c.step_boundary-stop.ensures ∙ c.if-stop-ne0.false))).whole }
 
 pub load_handshake-hands-requires : goal.load_handshake-hands-requires
 load_handshake-hands-requires c = (lent_two c.args.handshake.now 4 c.args.message.now 21 (passed c.args.state.now (extent_of (memory c.args.rows.now)) (less c.args.state.now c.args.segments.now) (ltb (length c.args.handshake.now) 4 || ltb (length c.args.message.now) 21) (no_handshake c.args.handshake.now || no_message c.args.message.now) (eq-eqb _ _ (sym c.step_boundary-stop.ensures ∙ c.if-stop-ne0.false))).full).0
 
-pub load_message-requires : goal.load_message-requires
-load_message-requires c = (lent_two c.args.handshake.now 4 c.args.message.now 21 (passed c.args.state.now (extent_of (memory c.args.rows.now)) (less c.args.state.now c.args.segments.now) (ltb (length c.args.handshake.now) 4 || ltb (length c.args.message.now) 21) (no_handshake c.args.handshake.now || no_message c.args.message.now) (eq-eqb _ _ (sym c.step_boundary-stop.ensures ∙ c.if-stop-ne0.false))).full).1
+pub invariant_of-load_message : goal.invariant_of-load_message
+invariant_of-load_message c = record { whole = (lent_two c.args.handshake.now 4 c.args.message.now 21 (passed c.args.state.now (extent_of (memory c.args.rows.now)) (less c.args.state.now c.args.segments.now) (ltb (length c.args.handshake.now) 4 || ltb (length c.args.message.now) 21) (no_handshake c.args.handshake.now || no_message c.args.message.now) (eq-eqb _ _ (sym c.step_boundary-stop.ensures ∙ c.if-stop-ne0.false))).full).1 }
 
 pub store_book-requires : goal.store_book-requires
 store_book-requires c = (passed c.args.state.now (extent_of (memory c.args.rows.now)) (less c.args.state.now c.args.segments.now) (ltb (length c.args.handshake.now) 4 || ltb (length c.args.message.now) 21) (no_handshake c.args.handshake.now || no_message c.args.message.now) (eq-eqb _ _ (sym c.step_boundary-stop.ensures ∙ c.if-stop-ne0.false))).whole
@@ -40,5 +40,5 @@ pub returns : goal.returns
 unfolding step_call
 returns c =
     goes_on _ _ (λ (n : ℕ). step_called n c.args.state.now c.args.rows.now c.args.segments.now c.args.handshake.now) _ _ c.step_boundary-stop.ensures c.if-stop-ne0.false
-    (rw (c.number.ensures, c.store_handshake.ensures, c.store_book.ensures, c.step_sets_status.ensures, ← c.load_handshake-hands.ensures, ← c.load_book-book.ensures, ← c.load_message.ensures)
-    (step-leaves ceiling c.args.state.now c.args.rows.now c.args.segments.now c.load_book-book.result c.last_record-last.result c.last_record-last.ensures c.load_handshake-hands.result c.args.handshake.now c.load_message.result c.step_by_value-work.result _ _ c.step_by_value-work.ensures c.rewrite_record.ensures))
+    (rw (c.number.ensures, c.store_handshake.ensures, c.store_book.ensures, c.step_sets_status.ensures, ← c.load_handshake-hands.ensures, ← c.load_book-book.ensures, ← c.load_message-message.ensures)
+    (step-leaves ceiling c.args.state.now c.args.rows.now c.args.segments.now c.load_book-book.result c.last_record-last.result c.last_record-last.ensures c.load_handshake-hands.result c.args.handshake.now c.load_message-message.result c.step_by_value-work.result _ _ c.step_by_value-work.ensures c.rewrite_record.ensures))

@@ -13,11 +13,11 @@ pub returns-then-stop-ne0 : goal.returns-then-stop-ne0
 unfolding invalidation_call
 returns-then-stop-ne0 c = turned-away _ _ (λ (n : ℕ). answered n c.args.out.now) _ c.own_boundary-stop.ensures c.if-stop-ne0.true
 
-pub load_book-requires : goal.load_book-requires
-load_book-requires c = (own-passed c.args.state.now (eq-eqb _ _ (sym c.own_boundary-stop.ensures ∙ c.if-stop-ne0.false))).0
+pub invariant_of-load_book : goal.invariant_of-load_book
+invariant_of-load_book c = record { whole = (own-passed c.args.state.now (eq-eqb _ _ (sym c.own_boundary-stop.ensures ∙ c.if-stop-ne0.false))).0 }
 
 pub returns : goal.returns
 unfolding invalidation_call
 returns c =
     goes_on _ _ (λ (n : ℕ). answered n c.args.out.now) _ _ c.own_boundary-stop.ensures c.if-stop-ne0.false
-    (rw (← c.load_book.ensures) (c.store_invalidation.ensures ∙ ap (λ x. told_in (invalidation_told x) c.args.out.now) c.invalidation.ensures.value))
+    (rw (← c.load_book-book.ensures) (c.store_invalidation.ensures ∙ ap (λ x. told_in (invalidation_told x) c.args.out.now) c.invalidation.ensures.value))

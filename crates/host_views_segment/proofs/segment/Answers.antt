@@ -15,8 +15,8 @@ pub returns-then-stop-ne0 : goal.returns-then-stop-ne0
 unfolding segment_call
 returns-then-stop-ne0 c = turned-away _ _ (λ (n : ℕ). answered n c.args.out.now) _ c.own_boundary-stop.ensures c.if-stop-ne0.true
 
-pub load_book-book-requires : goal.load_book-book-requires
-load_book-book-requires c = (own-passed c.args.state.now (eq-eqb _ _ (sym c.own_boundary-stop.ensures ∙ c.if-stop-ne0.false))).0
+pub invariant_of-load_book : goal.invariant_of-load_book
+invariant_of-load_book c = record { whole = (own-passed c.args.state.now (eq-eqb _ _ (sym c.own_boundary-stop.ensures ∙ c.if-stop-ne0.false))).0 }
 
 pub returns : goal.returns
 unfolding segment_call

@@ -1,4 +1,0 @@
-use Rattle.host_messages.proofs.done_words.Goals as goal
-
-pub returns : goal.returns
-returns c = cc
