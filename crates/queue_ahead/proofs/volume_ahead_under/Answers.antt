@@ -1,6 +1,6 @@
 -- The tests of the code are those of `ahead_refusal`, in its order; past them the rows are lent and sound, and the list is long enough.
 use Rattle.std.proofs.lemmas.Result.{err_from_is_err_and}
-use mathlib.Core.Path.{◌∙◌, sym, ap}
+use mathlib.Core.Path.{◌∙◌, ap}
 use mathlib.Core.Bool.{false}
 use Rattle.book.specs.Memory.{memory, orders_of}
 use Rattle.reconstructor_state.specs.Checks.{check, first}
@@ -22,9 +22,6 @@ invariant_of-sound c =
     let m = memory a.rows.now in
     let v = found-valid a.top.limit a.book m false _ c.valid_book.ensures _ c.in_ok-last_seq.was in
     record { sound = (sound a.book m v.2.trusted.sound).formed.sound }
-
-pub anchor_ahead-requires : goal.anchor_ahead-requires
-anchor_ahead-requires c = sym c.list_short.ensures ∙ c.if-list_short.false
 
 pub returns-then-list_short : goal.returns-then-list_short
 unfolding ahead_refusal ahead_of check first

@@ -1,5 +1,5 @@
 -- The search by place finds a row exactly where the line has an order of that id.
-use Rattle.std.specs.Prelude.{◌≡◌, ℕ, ◌+◌, true, false, Bool, cond, List, [], ◌∷◌, Some, is_some, refl}
+use Rattle.std.specs.Prelude.{◌≡◌, ℕ, ◌+◌, true, false, cond, List, [], ◌∷◌, Some, is_some, refl}
 use mathlib.Core.Path.{ap, ◌∙◌}
 use Rattle.message.specs.declared.OrderId.{OrderId}
 use Rattle.message.specs.Same.{same_id}

@@ -1,11 +1,11 @@
 -- The first loop keeps the first `i` rows those of the orders, the second the rows up to `k` those with blank ones behind, and both the words beyond as
 -- they were. Blank rows are zeros, so the end is `stored`.
-use mathlib.Core.Path.{◌≡◌, refl, ◌∙◌, ap}
+use mathlib.Core.Path.{◌≡◌, ◌∙◌, ap}
 use native.Mathlib.Omega.{arith}
 use Rattle.reconstructor_bootstrap.specs.Places.{entries_from, rows_at}
 use Rattle.book.specs.Rows.{empty_row, set_row}
 use Rattle.book.proofs.Rows.{row_path}
-use Rattle.reconstructor_bootstrap.proofs.Filled.{filled_on, filled_none, filled_next, blanks-none, blanks-next, filled-stored}
+use Rattle.reconstructor_bootstrap.proofs.Filled.{filled_on, filled_none, filled_next, blanks-next, filled-stored}
 use Rattle.reconstructor_bootstrap.proofs.Places.{rows_at-next, rows_at-length}
 use Rattle.reconstructor_snapshot.proofs.store_rows.Goals as goal
 
@@ -13,21 +13,10 @@ pub loop-i-init : goal.loop-i-init
 unfolding entries_from
 loop-i-init c = (omega arith, filled_none c.args.rows.now)
 
-pub set_row-requires : goal.set_row-requires
-set_row-requires c = (omega (arith, c.loop-i.invariant.1.same), omega arith)
-
 pub loop-i-preserved : goal.loop-i-preserved
 loop-i-preserved c =
     let a = c.args in
     (omega arith, rw (rows_at-next a.bids a.bytes.now a.sequence c.loop-i.i c.snapshot_row-order.result c.snapshot_row-order.ensures) (filled_next a.rows.now c.loop-i.rows _ c.loop-i.i _ c.snapshot_row-order.result (omega arith) c.set_row.ensures c.loop-i.invariant.1))
-
-pub loop-k-init : goal.loop-k-init
-loop-k-init c =
-    let a = c.args in
-    let z : c.loop-i.i ≡ a.n = omega arith in (omega arith, omega arith, record { same = refl; rows = (rw z at c.loop-i.invariant.1.rows) ∙ blanks-none _ a.n; rest = refl })
-
-pub set_row-requires-in-loop-k : goal.set_row-requires-in-loop-k
-set_row-requires-in-loop-k c = (omega (arith, c.loop-k.invariant.2.same), omega arith)
 
 pub loop-k-preserved : goal.loop-k-preserved
 loop-k-preserved c =

@@ -1,10 +1,7 @@
 -- 10, then 14 of the orders, are tested as the definition does. Once 14 is passed the sum of bids and asks is within the limit, so it can be formed and the
 -- orders validated; and the orders by place are the snapshot's line (`line-places`).
 use mathlib.Core.Path.{sym, ap, ◌∙◌}
-use Prim.Native.Nat.{◌+◌, ◌≤◌}
-use native.Mathlib.Omega.{arith}
 use mathlib.Core.Bool.{not}
-use borrow.Author.Tests.{ltb-false}
 use Rattle.reconstructor_bootstrap.specs.Snapshot.{line_refusal, snapshot_refusal}
 use Rattle.reconstructor_bootstrap.specs.Bootstrap.{validated}
 use Rattle.reconstructor_state.proofs.Checks.{fails, goes_on, told-true, told-false}
@@ -19,9 +16,6 @@ returns-then-not-same_product c = says (fails _ _ _ (ap not (sym c.same_product.
 pub returns-then-over_limit : goal.returns-then-over_limit
 unfolding snapshot_refusal
 returns-then-over_limit c = says (goes_on _ _ _ _ (ap not (sym c.same_product.ensures ∙ c.if-not-same_product.false)) (fails _ _ _ (told-true c.over_limit.ensures c.if-over_limit.true)))
-
-pub validate_orders-requires : goal.validate_orders-requires
-validate_orders-requires c = let h : c.args.snapshot.bids + c.args.snapshot.asks ≤ c.args.rules.max_orders = ltb-false c.args.rules.max_orders (c.args.snapshot.bids + c.args.snapshot.asks) (told-false c.over_limit.ensures c.if-over_limit.false) in omega (arith, c.requires)
 
 pub returns : goal.returns
 unfolding snapshot_refusal

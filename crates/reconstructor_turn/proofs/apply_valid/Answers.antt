@@ -7,9 +7,6 @@ use Rattle.reconstructor.specs.Inner.{committed}
 use Rattle.book.specs.Memory.{memory}
 use Rattle.reconstructor_turn.proofs.apply_valid.Goals as goal
 
-pub commit-requires : goal.commit-requires
-commit-requires c = record { ready = c.requires.ready; plan_fits = (rw c.in-Ok.is at c.take_turn.ensures).2 }
-
 pub returns-in-Ok : goal.returns-in-Ok
 unfolding decided accepted committed
 returns-in-Ok c =

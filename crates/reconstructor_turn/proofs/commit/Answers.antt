@@ -9,21 +9,6 @@ use Rattle.book.proofs.Stored.{stored_same}
 use Rattle.reconstructor.proofs.Laws.{commits}
 use Rattle.reconstructor_turn.proofs.commit.Goals as goal
 
-pub insert-requires : goal.insert-requires
-insert-requires c =
-    let f = rw c.in-Insert.is at c.requires.plan_fits in
-    f
-
-pub reduce-requires : goal.reduce-requires
-reduce-requires c =
-    let f = rw c.in-Reduce.is at c.requires.plan_fits in
-    (record { room = omega arith; few = omega arith }, f)
-
-pub remove-requires : goal.remove-requires
-remove-requires c =
-    let f = rw c.in-Remove.is at c.requires.plan_fits in
-    (record { room = omega arith; few = omega arith }, f)
-
 pub returns-in-NoEffect : goal.returns-in-NoEffect
 returns-in-NoEffect c =
     let a = c.args in

@@ -1,11 +1,8 @@
 -- Each test of the code is one of the definition, in its order; 1 passed bounds the limits, 2 passed lends the rows that 3 looks at.
-use mathlib.Core.Path.{◌∙◌, sym, refl}
-use native.Mathlib.Omega.{arith}
-use Rattle.laws.proofs.Bools.{or_no}
-use Rattle.book.specs.Memory.{memory, extent_of}
+use mathlib.Core.Path.{refl}
 use Rattle.reconstructor_state.proofs.Checks.{fails, goes_on, told-true, told-false}
 use Rattle.reconstructor_checks.specs.StateChecks.{memory_short}
-use Rattle.reconstructor_checks.proofs.StateChecks.{says, says_none, orders-within}
+use Rattle.reconstructor_checks.proofs.StateChecks.{says, says_none}
 use Rattle.reconstructor_view.specs.ValueReads.{read_refusal}
 use Rattle.reconstructor_view.proofs.read_checks.Goals as goal
 
@@ -13,23 +10,11 @@ pub returns-then-over_ceiling : goal.returns-then-over_ceiling
 unfolding read_refusal
 returns-then-over_ceiling c = says (fails _ _ _ (told-true c.over_ceiling.ensures c.if-over_ceiling.true))
 
-pub memory_short-requires : goal.memory_short-requires
-memory_short-requires c =
-    let m = orders-within c.args.top.limit c.args.book.rules (sym c.over_ceiling.ensures ∙ c.if-over_ceiling.false) in
-    omega arith
-
 pub returns-then-memory_short-short : goal.returns-then-memory_short-short
 unfolding read_refusal
 returns-then-memory_short-short c =
     let s = rw c.memory_short.ensures at c.if-memory_short-short.true in
     says (goes_on _ _ _ _ (told-false c.over_ceiling.ensures c.if-over_ceiling.false) (fails _ _ _ s))
-
-pub broken-requires : goal.broken-requires
-broken-requires c =
-    let a = c.args in
-    let s = rw c.memory_short.ensures at c.if-memory_short-short.false in
-    let m = orders-within a.top.limit a.book.rules (sym c.over_ceiling.ensures ∙ c.if-over_ceiling.false) in
-    ((or_no (memory_short a.book.rules (extent_of (memory a.rows.now))) a.short s).0, omega arith)
 
 pub returns-then-broken : goal.returns-then-broken
 unfolding read_refusal
