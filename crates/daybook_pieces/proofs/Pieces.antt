@@ -65,7 +65,7 @@ module _ (b : BookReconstructor) (mem : Memory) (g : Segment) (m : L3Message) (u
 
   gate-starts : (o : Option ApplyError) → admit_refusal b.product_id b.status m ≡ o → Starts b g (by_apply_to (after_gate b mem g m o))
   unfolding after_gate refused_reply
-  gate-starts (Some a) h = stays refl (ap (λ (x : BookReconstructor). x.segments) (refusal-counts b a)) (λ z. refl)
+  gate-starts (Some a) h = stays refl (ap (λ (x : BookReconstructor). x.segments) (refusal-counts b (Err a))) (λ z. refl)
   gate-starts None h =
       stays refl (decided-segments (last_of b.status) (turn_refusal b.rules (line_in mem b.rows) (last_of b.status) m))
       (λ z. absurd (omega (arith, z, has-segment b (last_of b.status) (admitted-valid b.product_id b.status m h) (sound b mem u.sound).set)))
@@ -96,8 +96,8 @@ module _ (b : BookReconstructor) (mem : Memory) (g : Segment) (bytes : List ℕ)
   snapshot-starts = go refusal refl (read_snapshot bytes)
     where
       go : (o : Option BootstrapError) → refusal ≡ o → (r : Result L3Snapshot PieceError) → Starts b g (by_bootstrap_to (unless_refused o b mem day_segments g (taken r b mem day_segments g bytes)))
-      go (Some a) h r = stays refl (ap (λ (x : BookReconstructor). x.segments) (counts_alone a b)) (λ z. refl)
-      go None h (Err e) = stays refl (ap (λ (x : BookReconstructor). x.segments) (counts_alone (piece_error e) b)) (λ z. refl)
+      go (Some a) h r = stays refl (ap (λ (x : BookReconstructor). x.segments) (counts_alone (Err a) b)) (λ z. refl)
+      go None h (Err e) = stays refl (ap (λ (x : BookReconstructor). x.segments) (counts_alone (Err (piece_error e)) b)) (λ z. refl)
       go None h (Ok s) = begins refl (room h) refl
 
 pub piece-starts : (b : BookReconstructor) (mem : Memory) (g : Segment) (bytes : List ℕ) → Usable ceiling b mem day_segments → Starts b g (played_to b mem g bytes)
@@ -168,7 +168,7 @@ pub unread-played : (b : BookReconstructor) (mem : Memory) (g : Segment) (bytes 
     → unstarted (piece_number e) b mem g ≡ by_bootstrap_to (bootstrapped_to ceiling b mem day_segments g bytes)
 unread-played b mem g bytes e u q = said e ∙ ap by_bootstrap_to (not-read ceiling b mem day_segments g bytes (usable-none ceiling b mem day_segments u) e q)
   where
-    said : (x : PieceError) → unstarted (piece_number x) b mem g ≡ by_bootstrap_to (booted (refused_work (piece_error x) b day_segments g) mem)
+    said : (x : PieceError) → unstarted (piece_number x) b mem g ≡ by_bootstrap_to (booted (refused_work (Err (piece_error x)) b day_segments g) mem)
     said pieces.NotAPiece = refl
     said pieces.OutOfRange = refl
 
@@ -195,7 +195,7 @@ module _ (b : BookReconstructor) (ws vs : List ℕ) (g : Segment) (bytes : List 
           → day_segments ≤ (unless_refused o b (memory ws) day_segments g (boot.accepted b (memory ws) g s.sequence (snapshot_line s bytes))).at
           → orders_of (unless_refused o b (memory ws) day_segments g (boot.accepted b (memory ws) g s.sequence (snapshot_line s bytes))).memory (unless_refused o b (memory ws) day_segments g (boot.accepted b (memory ws) g s.sequence (snapshot_line s bytes))).book.rows
           ≡ orders_of (memory ws) b.rows
-      go (Some a) h l = ap (λ (x : BookReconstructor). orders_of (memory ws) x.rows) (counts_alone a b)
+      go (Some a) h l = ap (λ (x : BookReconstructor). orders_of (memory ws) x.rows) (counts_alone (Err a) b)
       go None h l = absurd (omega (arith, l, list-room b (memory ws) g bytes u s h))
 
   pub after-marks : (ps : List ℕ) (bounds : Option Bounds) → Indexed ps bounds (orders_of (memory ws) b.rows) → ltb w.at day_segments ≡ false → Marks ps bounds (orders_of (memory vs) w.book.rows)

@@ -54,7 +54,7 @@ use Rattle.piece.specs.declared.PieceError.{PieceError}
 -- ---- `pinuglaw_apply`
 
 refused-words : (st : List ℕ) (a : ApplyError) → state_words ≤ length st → acts (apply_error_number a) ≡ false
-    → restored st (sets_status (Err a)) (refused_book (book_of st) a) ≡ refused_state (apply_error_number a) st
+    → restored st (sets_status (Err a)) (refused_book (book_of st) (Err a)) ≡ refused_state (apply_error_number a) st
 refused-words st (refusals.Unusable LimitAboveCeiling) long h = block_same st long
 refused-words st (refusals.Unusable LentTooShort) long h = block_same st long
 refused-words st (refusals.Unusable MalformedBook) long h = block_same st long
@@ -104,7 +104,7 @@ module _ (st ws sg : List ℕ) (m : L3Message) (long : state_words ≤ length st
   unfolding after_gate refused_reply
   gated-state (Some a) =
       let b = book_of st in
-      rw (refusal-counts b a) (block_back st (sets_status (Err a)) b.status b.rows b.segments (refused_book b a).counts long (λ e. refl))
+      rw (refusal-counts b (Err a)) (block_back st (sets_status (Err a)) b.status b.rows b.segments (refused_book b (Err a)).counts long (λ e. refl))
   gated-state None = decided-state st (memory ws) (last_of (book_of st).status) m turn long
 
   module _ (top : ℕ) where
@@ -144,7 +144,7 @@ module _ (st ws sg m : List ℕ) where
 -- ---- `pinuglaw_bootstrap`
 
 rejected-words : (st : List ℕ) (x : BootstrapError) → state_words ≤ length st → eqb (bootstrap_error_number x) 0 ≡ false
-    → restored st (eqb (bootstrap_error_number x) 0) (boot.refused_book x (book_of st)) ≡ cond (ltb (bootstrap_error_number x) 10 || ltb 14 (bootstrap_error_number x)) st (raised st 26)
+    → restored st (eqb (bootstrap_error_number x) 0) (boot.refused_book (Err x) (book_of st)) ≡ cond (ltb (bootstrap_error_number x) 10 || ltb 14 (bootstrap_error_number x)) st (raised st 26)
 rejected-words st (Unusable LimitAboveCeiling) long h = block_same st long
 rejected-words st (Unusable LentTooShort) long h = block_same st long
 rejected-words st (Unusable MalformedBook) long h = block_same st long
@@ -172,7 +172,7 @@ module _ (st ws sg bytes : List ℕ) where
   found o r = boot.unless_refused o (book_of st) (memory ws) many last_one (boot.taken r (book_of st) (memory ws) many last_one bytes)
 
   abbrev rejected : BootstrapError → BookCall
-  rejected x = written (boot.booted (boot.refused_work x (book_of st) many last_one) (memory ws))
+  rejected x = written (boot.booted (boot.refused_work (Err x) (book_of st) many last_one) (memory ws))
 
   rejected-list : relaid sg (set (relast (records_of sg) (book_of st).segments last_one) many no_segment) ≡ sg
   rejected-list =
@@ -204,11 +204,11 @@ module _ (st ws sg bytes : List ℕ) where
       (λ p. left-refused refusal (read_snapshot bytes) p.whole)
 
   module _ (long : state_words ≤ length st) where
-    rejected-state : (x : BootstrapError) → book_of (rejected x).state ≡ boot.refused_book x (book_of st)
+    rejected-state : (x : BootstrapError) → book_of (rejected x).state ≡ boot.refused_book (Err x) (book_of st)
     rejected-state x =
         let b = book_of st in
-        rw (counts_alone x b)
-        (block_back st (eqb (bootstrap_error_number x) 0) b.status b.rows b.segments (boot.refused_book x b).counts long (λ e. refl))
+        rw (counts_alone (Err x) b)
+        (block_back st (eqb (bootstrap_error_number x) 0) b.status b.rows b.segments (boot.refused_book (Err x) b).counts long (λ e. refl))
 
     left-state : (o : Option BootstrapError) (r : Result L3Snapshot PieceError) → book_of (written (found o r)).state ≡ (found o r).book
     left-state (Some x) r = rejected-state x

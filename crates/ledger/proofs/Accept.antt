@@ -8,7 +8,6 @@ use mathlib.Core.Path.{◌≡◌, refl}
 use mathlib.Core.List.{List, [], ◌∷◌}
 use Rattle.message.specs.declared.L3Message.{L3Message}
 use Rattle.piece.specs.Piece.{read_snapshot}
-use Rattle.reconstructor_answers.specs.declared.ApplyError.{ApplyError}
 use Rattle.reconstructor_answers.specs.declared.InvalidationKind.{InvalidationKind}
 use Rattle.reconstructor_state.specs.declared.VenueRules.{VenueRules}
 use Rattle.reconstructor_state.specs.State.{View, Lengths, last_of}
@@ -26,7 +25,7 @@ use Rattle.piece.specs.declared.PieceError.{PieceError}
 absurd_path : {B : Type 0} → ◌≡◌ {A = ℕ} 0 1 → B
 absurd_path z = absurd (omega arith)
 
-pub settled : (g : Option ApplyError) (t : Option InvalidationKind) → outcome_of g t ≡ accepted → (g ≡ None) × (t ≡ None)
+pub settled : {A : Type 0} (g : Option A) (t : Option InvalidationKind) → outcome_of g t ≡ accepted → (g ≡ None) × (t ≡ None)
 unfolding outcome_of
 settled (Some n) t h = absurd_path cc
 settled None (Some n) h = absurd_path cc

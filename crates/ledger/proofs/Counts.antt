@@ -1,6 +1,6 @@
 -- Each of the twelve counts is the number of calls so far that are counted there, up to 2^64−1.
 -- Assumes nothing.
-use Rattle.std.specs.Prelude.{Option, Some, None}
+use Rattle.std.specs.Prelude.{Option, Some, None, Err}
 use Prim.Native.Nat.{ℕ, ◌+◌, ◌≤◌}
 use native.Mathlib.Omega.{arith}
 use mathlib.Core.Bool.{Bool, true, false, not, ◌||◌, cond}
@@ -103,7 +103,7 @@ counted_up a (Some p) k e = ap (λ (z : MessageCounts). counted z p) e ∙ count
 
 -- ---- a call by value, lent enough
 
-refused-counted : (b : BookReconstructor) (mem : Memory) (g : Segment) (m : L3Message) (a : ApplyError) → (after_gate b mem g m (Some a)).book.counts ≡ counted_by (answer_place a) b.counts
+refused-counted : (b : BookReconstructor) (mem : Memory) (g : Segment) (m : L3Message) (a : ApplyError) → (after_gate b mem g m (Some a)).book.counts ≡ counted_by (answer_place (Err a)) b.counts
 unfolding after_gate refused_reply
 refused-counted b mem g m (refusals.Unusable e) = refl
 refused-counted b mem g m refusals.AmountOutOfRange = refl
@@ -171,7 +171,7 @@ module _ (top : ℕ) (b : BookReconstructor) (mem : Memory) (sg : List Segment) 
         go₁ false p = go₂ p (not (event_in_range m.event)) refl
 
   module _ (bytes : List ℕ) where
-    rejected-counted : (x : BootstrapError) → (boot.refused_book x b).counts ≡ counted_by (snapshot_place (Some x)) b.counts
+    rejected-counted : (x : BootstrapError) → (boot.refused_book (Err x) b).counts ≡ counted_by (snapshot_place (Some x)) b.counts
     rejected-counted (snapshots.Unusable e) = refl
     rejected-counted snapshots.NotAPiece = refl
     rejected-counted snapshots.AmountOutOfRange = refl

@@ -1,6 +1,6 @@
 -- What a call that is lent enough leaves of its lent memory: as much of it, with room for the rows and records in use.
 -- Assumes nothing.
-use Rattle.std.specs.Prelude.{Option, Some, None}
+use Rattle.std.specs.Prelude.{Option, Some, None, Err}
 use Prim.Native.Nat.{ℕ, ◌*◌, ◌≤◌}
 use native.Mathlib.Omega.{arith}
 use mathlib.Core.Bool.{Bool, true, false, not}
@@ -129,7 +129,7 @@ module _ (top : ℕ) (b : BookReconstructor) (mem : Memory) (sg : List Segment) 
     where
       go : (o : Option BootstrapError) → refusal_of top b mem sg bytes ≡ o → BootLeft (bootstrapped top b mem sg bytes)
       go (Some x) q =
-          let e : refused_book x b ≡ with_counts b (refused_book x b).counts = counts_alone x b in
+          let e : refused_book (Err x) b ≡ with_counts b (refused_book (Err x) b).counts = counts_alone (Err x) b in
           rw (refused_is top b mem sg bytes x q)
-          (left-same top b (refused_book x b) mem sg u (ap (λ (k : BookReconstructor). k.rows) e) (ap (λ (k : BookReconstructor). k.segments) e))
+          (left-same top b (refused_book (Err x) b) mem sg u (ap (λ (k : BookReconstructor). k.rows) e) (ap (λ (k : BookReconstructor). k.segments) e))
       go None q = accepted-left q

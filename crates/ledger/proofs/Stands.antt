@@ -150,7 +150,7 @@ module _ (top : ℕ) (b : BookReconstructor) (mem : Memory) (sg : List Segment) 
   refused-facts : (a : ApplyError) (t : Option InvalidationKind) → Facts (Some a) t
   unfolding after_gate refused_reply outcome_of
   refused-facts a t =
-      let e : refused_book b a ≡ with_counts b (refused_book b a).counts = refusal-counts b a in (
+      let e : refused_book b (Err a) ≡ with_counts b (refused_book b (Err a)).counts = refusal-counts b (Err a) in (
         ap config_of e,
         ap (λ (x : BookReconstructor). seen s x mem) e,
         subst (λ (x : BookReconstructor). Starts s x (relast sg b.segments last)) (sym e) (subst (λ (l : List Segment). Starts s b l) (sym (relast-same sg b.segments)) st),
@@ -159,7 +159,7 @@ module _ (top : ℕ) (b : BookReconstructor) (mem : Memory) (sg : List Segment) 
   abbrev Turns : Option InvalidationKind → Type 0
   Turns t =
       (config_of (decided b mem (last_of b.status) m t).book ≡ config_of b)
-      × (seen s (decided b mem (last_of b.status) m t).book (decided b mem (last_of b.status) m t).memory ≡ view_by b.rules m (outcome_of None t) (seen s b mem))
+      × (seen s (decided b mem (last_of b.status) m t).book (decided b mem (last_of b.status) m t).memory ≡ view_by b.rules m (outcome_of {A = ApplyError} None t) (seen s b mem))
       × Starts s (decided b mem (last_of b.status) m t).book (relast sg b.segments (next_segment last (decided b mem (last_of b.status) m t).answer m.sequence m.time_us))
 
   turn-start : (a : Result Applied ApplyError) → 0 < b.segments → (last_segment (relast sg b.segments (next_segment last a m.sequence m.time_us)) b.segments).start_seq ≡ s
@@ -256,9 +256,9 @@ module _ (top : ℕ) (b : BookReconstructor) (mem : Memory) (sg : List Segment) 
       piece-same (Err e) = refl
       piece-same (Ok x) = accept-same b mem sg s x bytes
 
-  counted-stands : (x : BootstrapError) → Stands (config_of b) (refused_boot x b) mem sg (seen s b mem)
+  counted-stands : (x : BootstrapError) → Stands (config_of b) (refused_boot (Err x) b) mem sg (seen s b mem)
   unfolding broken
-  counted-stands x = rw (counts_alone x b) (record { config = refl; view = refl; start = st; sound = u.sound })
+  counted-stands x = rw (counts_alone (Err x) b) (record { config = refl; view = refl; start = st; sound = u.sound })
 
   module _ (q : refusal_of top b mem sg bytes ≡ None) where
     module _ (x : L3Snapshot) (is : bootstrapped top b mem sg bytes ≡ accepted_parts b mem sg x.sequence (snapshot_line x bytes)) where

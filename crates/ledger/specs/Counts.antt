@@ -1,9 +1,10 @@
 -- The twelve counts, worked out from the calls alone: where 01 counts a call, and how many calls so far it counts there. Where is said by the counter's name.
-use Rattle.std.specs.Prelude.{ℕ, ◌+◌, Bool, false, cond, List, [], ◌∷◌, eqb, ltb, Option, Some, None}
+use Rattle.std.specs.Prelude.{ℕ, ◌+◌, Bool, false, cond, List, [], ◌∷◌, eqb, ltb, Option, Some, None, Result, Ok, Err}
 use Rattle.message.specs.declared.L3Event.{L3Event}
 use Rattle.message.specs.declared.L3Message.{L3Message}
 use Rattle.book.specs.Line.{Entry}
 use Rattle.reconstructor_answers.specs.declared.InvalidationKind.{InvalidationKind}
+use Rattle.reconstructor_answers.specs.declared.Applied.{Applied}
 use Rattle.reconstructor_answers.specs.declared.ApplyError.{ApplyError}
 use Rattle.reconstructor_answers.specs.declared.ApplyError.TheVariants as refusals
 use Rattle.reconstructor_counts.specs.declared.MessageCounts.{MessageCounts}
@@ -24,17 +25,18 @@ use Rattle.ledger.specs.Ledger.{Config, Call, bootstrap, apply, step, read, name
 -- ---- where a call is counted, if anywhere
 
 -- 01, apply: "another product is 10 (counts wrong_product) .. an invalid book is 17 (counts skipped_while_invalid)"
-abbrev pub answer_place : ApplyError → Option Counter
-answer_place (refusals.Unusable e) = None
-answer_place refusals.AmountOutOfRange = None
-answer_place refusals.WrongProduct = Some counters.WrongProduct
-answer_place refusals.NotBootstrapped = None
-answer_place (refusals.Invalidated i) = None
-answer_place (refusals.AwaitingSnapshot i) = Some counters.SkippedWhileInvalid
+abbrev pub answer_place : Result Applied ApplyError → Option Counter
+answer_place (Ok a) = None
+answer_place (Err (refusals.Unusable e)) = None
+answer_place (Err refusals.AmountOutOfRange) = None
+answer_place (Err refusals.WrongProduct) = Some counters.WrongProduct
+answer_place (Err refusals.NotBootstrapped) = None
+answer_place (Err (refusals.Invalidated i)) = None
+answer_place (Err (refusals.AwaitingSnapshot i)) = Some counters.SkippedWhileInvalid
 
 -- "Acceptance .. adds one to one counter"; what invalidates is not counted
 abbrev pub message_place : VenueRules → List Entry → L3Event → Option ApplyError → Option InvalidationKind → Option Counter
-message_place v l e (Some a) t = answer_place a
+message_place v l e (Some a) t = answer_place (Err a)
 message_place v l e None (Some k) = None
 message_place v l e None None = Some (counter_of v l e)
 

@@ -14,7 +14,6 @@ use Rattle.piece.specs.Piece.{read_snapshot}
 use Rattle.book.specs.Line.{Entry, find, same_level}
 use Rattle.book.specs.Memory.{Extent, snapshot, line_by}
 use Rattle.reconstructor_answers.specs.declared.InvalidationKind.{InvalidationKind}
-use Rattle.reconstructor_answers.specs.declared.ApplyError.{ApplyError}
 use Rattle.reconstructor_segments.specs.declared.SegmentName.{SegmentName}
 use Rattle.reconstructor_state.specs.declared.Status.TheVariants as statuses
 use Rattle.reconstructor_state.specs.declared.VenueRules.{VenueRules}
@@ -86,7 +85,8 @@ pub data Outcome : Type 0 where
   dropped : Outcome
   accepted : Outcome
 
-unfoldable pub outcome_of : Option ApplyError → Option InvalidationKind → Outcome
+-- by why it is turned away before its turn, and at its turn
+unfoldable pub outcome_of : {A : Type 0} → Option A → Option InvalidationKind → Outcome
 outcome_of (Some a) t = refused
 outcome_of None (Some k) = invalidates k
 outcome_of None None = accepted

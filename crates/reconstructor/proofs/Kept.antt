@@ -1,7 +1,7 @@
 -- What a call keeps: a usable state stays usable, so that number 3 never arises later; a refusal leaves all but the counts that 01 names; 16 leaves
 -- the rows.
 -- Assumes nothing.
-use Rattle.std.specs.Prelude.{Option, Some, None, Err}
+use Rattle.std.specs.Prelude.{Option, Some, None, Result, Ok, Err}
 use Prim.Native.Nat.{ℕ, ◌<◌}
 use mathlib.Core.Path.{◌≡◌, refl, sym, ◌∙◌, ap}
 use mathlib.Core.Bool.{Bool, false, true}
@@ -27,9 +27,10 @@ use Rattle.reconstructor_segments.specs.declared.Segment.{Segment}
 use Rattle.reconstructor_segments.specs.Segments.{last_segment}
 use Rattle.reconstructor_state.specs.declared.VenueRules.{VenueRules}
 use Rattle.reconstructor_state.specs.declared.Status.{Status}
+use Rattle.reconstructor_answers.specs.declared.Applied.{Applied}
 use Rattle.reconstructor_answers.specs.declared.ApplyError.{ApplyError}
 use Rattle.reconstructor_state.specs.declared.BookReconstructor.{BookReconstructor}
-use Rattle.reconstructor_answers.specs.Numbers.{apply_error_number}
+use Rattle.reconstructor_answers.specs.Numbers.{answer_number}
 use Rattle.reconstructor_state.specs.State.{with, with_counts, last_of}
 use Rattle.reconstructor_checks.specs.StateChecks.{broken, Usable}
 use Rattle.reconstructor_plan.specs.Rules.{event_refusal, event_deed, effect}
@@ -49,27 +50,29 @@ use Rattle.reconstructor_answers.specs.declared.ApplyError.TheVariants as refusa
 
 module _ (top : ℕ) (b : BookReconstructor) (mem : Memory) (sg : List Segment) (m : L3Message) (a : ApplyError) (h : book_gate top b mem (length sg) (last_segment sg b.segments) m ≡ Some a) where
   -- before its turn a message leaves every lent word, and of the state all but the counts
-  pub refusal-leaves : ((applied top b mem sg m).answer ≡ Err a) × ((applied top b mem sg m).book ≡ refused_book b a)
+  pub refusal-leaves : ((applied top b mem sg m).answer ≡ Err a) × ((applied top b mem sg m).book ≡ refused_book b (Err a))
       × ((applied top b mem sg m).memory ≡ mem) × ((applied top b mem sg m).segments ≡ sg)
   unfolding applied applied_to after_gate refused_reply
   refusal-leaves = rw h (refl, refl, refl, relast-same sg b.segments)
 
-pub refusal-counts : (b : BookReconstructor) (a : ApplyError) → refused_book b a ≡ with_counts b (refused_book b a).counts
-refusal-counts b (refusals.Unusable e) = refl
-refusal-counts b refusals.AmountOutOfRange = refl
-refusal-counts b refusals.WrongProduct = refl
-refusal-counts b refusals.NotBootstrapped = refl
-refusal-counts b (refusals.Invalidated i) = refl
-refusal-counts b (refusals.AwaitingSnapshot i) = refl
+pub refusal-counts : (b : BookReconstructor) (a : Result Applied ApplyError) → refused_book b a ≡ with_counts b (refused_book b a).counts
+refusal-counts b (Ok a) = refl
+refusal-counts b (Err (refusals.Unusable e)) = refl
+refusal-counts b (Err refusals.AmountOutOfRange) = refl
+refusal-counts b (Err refusals.WrongProduct) = refl
+refusal-counts b (Err refusals.NotBootstrapped) = refl
+refusal-counts b (Err (refusals.Invalidated i)) = refl
+refusal-counts b (Err (refusals.AwaitingSnapshot i)) = refl
 
 -- and the counts too, but for 10 and 17
-pub uncounted : (b : BookReconstructor) (a : ApplyError) → eqb (apply_error_number a) 10 ≡ false → eqb (apply_error_number a) 17 ≡ false → refused_book b a ≡ b
-uncounted b (refusals.Unusable e) p q = refl
-uncounted b refusals.AmountOutOfRange p q = refl
-uncounted b refusals.WrongProduct p q = let z : ◌≡◌ {A = ℕ} 0 1 = cc in absurd (omega arith)
-uncounted b refusals.NotBootstrapped p q = refl
-uncounted b (refusals.Invalidated i) p q = refl
-uncounted b (refusals.AwaitingSnapshot i) p q = let z : ◌≡◌ {A = ℕ} 0 1 = cc in absurd (omega arith)
+pub uncounted : (b : BookReconstructor) (a : Result Applied ApplyError) → eqb (answer_number a) 10 ≡ false → eqb (answer_number a) 17 ≡ false → refused_book b a ≡ b
+uncounted b (Ok a) p q = refl
+uncounted b (Err (refusals.Unusable e)) p q = refl
+uncounted b (Err refusals.AmountOutOfRange) p q = refl
+uncounted b (Err refusals.WrongProduct) p q = let z : ◌≡◌ {A = ℕ} 0 1 = cc in absurd (omega arith)
+uncounted b (Err refusals.NotBootstrapped) p q = refl
+uncounted b (Err (refusals.Invalidated i)) p q = refl
+uncounted b (Err (refusals.AwaitingSnapshot i)) p q = let z : ◌≡◌ {A = ℕ} 0 1 = cc in absurd (omega arith)
 
 -- ---- 16
 
@@ -112,7 +115,7 @@ module _ (top : ℕ) (b : BookReconstructor) (mem : Memory) (lent : ℕ) (u : Us
       → broken (with b s n k) after ≡ false → Usable top (with b s n k) after lent
   usable_as s n k after e h = record { within = u.within; lent = rw e u.lent; sound = h }
 
-  refused-usable : (a : ApplyError) → Usable top (refused_book b a) mem lent
+  refused-usable : (a : Result Applied ApplyError) → Usable top (refused_book b a) mem lent
   refused-usable a =
       rw (refusal-counts b a)
       (usable_as b.status b.rows (refused_book b a).counts mem refl (counts-sound b mem (refused_book b a).counts u.sound))
@@ -157,7 +160,7 @@ module _ (top : ℕ) (b : BookReconstructor) (mem : Memory) (lent : ℕ) (u : Us
   answered-usable : (g : Segment) (m : L3Message) (o : Option ApplyError) → admit_refusal b.product_id b.status m ≡ o
       → Usable top (after_gate b mem g m o).book (after_gate b mem g m o).memory lent
   unfolding after_gate refused_reply
-  answered-usable g m (Some a) h = refused-usable a
+  answered-usable g m (Some a) h = refused-usable (Err a)
   answered-usable g m None h = through m h (turn_refusal b.rules (line_in mem b.rows) (last_of b.status) m) refl
 
   -- a state that passes 1, 2 and 3 passes them after any message, lent the same words: 3 never arises later
@@ -180,7 +183,7 @@ module _ (f : Resting → Bool) (b : BookReconstructor) (mem : Memory) (m : L3Me
 
   answered_all : (g : Segment) (o : Option ApplyError) → all f (orders_left (after_gate b mem g m o)) ≡ true
   unfolding after_gate refused_reply
-  answered_all g (Some a) = rw (refusal-counts b a) h
+  answered_all g (Some a) = rw (refusal-counts b (Err a)) h
   answered_all g None = decided_all (last_of b.status) (turn_refusal b.rules (line_in mem b.rows) (last_of b.status) m)
 
   applied_all : (top lent : ℕ) (g : Segment) → all f (orders_left (applied_to top b mem lent g m)) ≡ true

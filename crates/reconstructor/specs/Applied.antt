@@ -63,16 +63,17 @@ put_back sg n w = record { answer = w.answer; book = w.book; memory = w.memory; 
 
 -- "another product is 10 (counts wrong_product) .. an invalid book is 17 (counts skipped_while_invalid)". "Save for the counts named above .. a refusal changes no
 -- state and no buffer"
-abbrev pub refused_book : BookReconstructor → ApplyError → BookReconstructor
-refused_book b (refusals.Unusable e) = b
-refused_book b refusals.AmountOutOfRange = b
-refused_book b refusals.WrongProduct = with_counts b (counted b.counts WrongProduct)
-refused_book b refusals.NotBootstrapped = b
-refused_book b (refusals.Invalidated i) = b
-refused_book b (refusals.AwaitingSnapshot i) = with_counts b (counted b.counts SkippedWhileInvalid)
+abbrev pub refused_book : BookReconstructor → Result Applied ApplyError → BookReconstructor
+refused_book b (Ok a) = b
+refused_book b (Err (refusals.Unusable e)) = b
+refused_book b (Err refusals.AmountOutOfRange) = b
+refused_book b (Err refusals.WrongProduct) = with_counts b (counted b.counts WrongProduct)
+refused_book b (Err refusals.NotBootstrapped) = b
+refused_book b (Err (refusals.Invalidated i)) = b
+refused_book b (Err (refusals.AwaitingSnapshot i)) = with_counts b (counted b.counts SkippedWhileInvalid)
 
-unfoldable pub refused_reply : BookReconstructor → ApplyError → Reply
-refused_reply b e = record { answer = Err e; book = refused_book b e }
+unfoldable pub refused_reply : BookReconstructor → Result Applied ApplyError → Reply
+refused_reply b a = record { answer = a; book = refused_book b a }
 
 -- "the answer is 16 with the last good sequence, the offending one and the reason"
 abbrev pub invalidation : ℕ → ℕ → InvalidationKind → Invalidation
@@ -114,7 +115,7 @@ at_turn b mem last m = decided b mem last m (turn_refusal b.rules (line_in mem b
 
 -- a message that is turned away before its turn, or let through
 unfoldable pub after_gate : BookReconstructor → Memory → Segment → L3Message → Option ApplyError → Worked
-after_gate b mem g m (Some e) = with_record (core (refused_reply b e) mem) g
+after_gate b mem g m (Some e) = with_record (core (refused_reply b (Err e)) mem) g
 after_gate b mem g m None =
     with_record (at_turn b mem (last_of b.status) m) (next_segment g (at_turn b mem (last_of b.status) m).answer m.sequence m.time_us)
 

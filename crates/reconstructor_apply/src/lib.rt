@@ -27,7 +27,7 @@ pub fn apply_under(
     ensures { worked result (memory rows.new) ≡ applied_to top.limit book (memory rows.old) lent last message }
 {
     match reconstructor_checks::own_checks(top, book, rows, lent) {
-        Err(why) => work_of(refused(book, ApplyError::Unusable(why)), last),
+        Err(why) => work_of(refused(book, Err(ApplyError::Unusable(why))), last),
         Ok(()) => apply_trusted(book, rows, last, message),
     }
 }

@@ -26,20 +26,20 @@ pub fn work_of(reply: Reply, segment: Segment) -> Work
 
 // A refusal before the turn: 10 and 17 are counted.
 #[tactic(auto, unfolding(reconstructor::specs::Applied::refused_reply))]
-pub fn refused(book: BookReconstructor, error: ApplyError) -> Reply
-    ensures { result ≡ refused_reply book error }
+pub fn refused(book: BookReconstructor, answer: Result<Applied, ApplyError>) -> Reply
+    ensures { result ≡ refused_reply book answer }
 {
-    let answer = Err(error);
-    match error {
-        ApplyError::Unusable(_) => Reply { book, answer },
-        ApplyError::AmountOutOfRange => Reply { book, answer },
-        ApplyError::WrongProduct => Reply {
+    match answer {
+        Ok(_) => Reply { book, answer },
+        Err(ApplyError::Unusable(_)) => Reply { book, answer },
+        Err(ApplyError::AmountOutOfRange) => Reply { book, answer },
+        Err(ApplyError::WrongProduct) => Reply {
             book: book.counting(Counter::WrongProduct),
             answer,
         },
-        ApplyError::NotBootstrapped => Reply { book, answer },
-        ApplyError::Invalidated(_) => Reply { book, answer },
-        ApplyError::AwaitingSnapshot(_) => Reply {
+        Err(ApplyError::NotBootstrapped) => Reply { book, answer },
+        Err(ApplyError::Invalidated(_)) => Reply { book, answer },
+        Err(ApplyError::AwaitingSnapshot(_)) => Reply {
             book: book.counting(Counter::SkippedWhileInvalid),
             answer,
         },

@@ -33,7 +33,7 @@ pub fn apply_indexed(
     ensures { worked result (memory rows.new) ≡ trusted_to book (memory rows.old) last message }
 {
     match admit(book, message) {
-        Err(error) => work_of(refused(book, error), last),
+        Err(error) => work_of(refused(book, Err(error)), last),
         Ok(last_seq) => {
             let reply = apply_valid(book, rows, places, bounds, last_seq, message);
             let segment = next_segment(last, reply.answer, message.sequence, message.time_us);

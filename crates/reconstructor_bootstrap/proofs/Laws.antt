@@ -1,6 +1,6 @@
 -- What a host may rely on: an accepted snapshot leaves a usable, well-formed book; a refused one leaves the book as it was.
 -- Assumes nothing.
-use Rattle.std.specs.Prelude.{Option, Some, None, Result, Ok, Err}
+use Rattle.std.specs.Prelude.{Option, Some, None, Result, Ok, Err, ⊤}
 use Prim.Native.Nat.{ℕ, zero, suc, ◌+◌, ◌*◌, ◌<◌}
 use mathlib.Core.Path.{◌≡◌, refl, sym, ap, ◌∙◌}
 use mathlib.Core.Bool.{Bool, true, false, cond, ◌&&◌}
@@ -175,12 +175,13 @@ module _ (top : ℕ) (b : BookReconstructor) (mem : Memory) (sg : List Segment) 
 -- ---- refusal
 
 -- a refusal changes the counts at most
-pub counts_alone : (x : BootstrapError) (b : BookReconstructor) → refused_book x b ≡ with_counts b (refused_book x b).counts
-counts_alone (Unusable e) b = refl
-counts_alone NotAPiece b = refl
-counts_alone AmountOutOfRange b = refl
-counts_alone ListFull b = refl
-counts_alone (Rejected e) b = refl
+pub counts_alone : (x : Result ⊤ BootstrapError) (b : BookReconstructor) → refused_book x b ≡ with_counts b (refused_book x b).counts
+counts_alone (Ok t) b = refl
+counts_alone (Err (Unusable e)) b = refl
+counts_alone (Err NotAPiece) b = refl
+counts_alone (Err AmountOutOfRange) b = refl
+counts_alone (Err ListFull) b = refl
+counts_alone (Err (Rejected e)) b = refl
 
 module _ (top : ℕ) (b : BookReconstructor) (mem : Memory) (sg : List Segment) (bytes : List ℕ) (x : BootstrapError) (h : refusal_of top b mem sg bytes ≡ Some x) where
   -- the last record rewritten with itself, and one past the end, leave the list
@@ -188,11 +189,11 @@ module _ (top : ℕ) (b : BookReconstructor) (mem : Memory) (sg : List Segment) 
   same = ap (λ l. set l (length sg) no_segment) (relast-same sg b.segments) ∙ set_out sg (length sg) no_segment (omega arith)
 
   -- 01, bootstrap: "leave all else; a valid book stays valid"
-  pub refused_is : bootstrapped top b mem sg bytes ≡ record { answer = Err x; book = refused_book x b; memory = mem; segments = sg }
-  refused_is = settles top b mem sg bytes (Some x) h ∙ ap (λ (l : List Segment). record { answer = Err x; book = refused_book x b; memory = mem; segments = l }) same
+  pub refused_is : bootstrapped top b mem sg bytes ≡ record { answer = Err x; book = refused_book (Err x) b; memory = mem; segments = sg }
+  refused_is = settles top b mem sg bytes (Some x) h ∙ ap (λ (l : List Segment). record { answer = Err x; book = refused_book (Err x) b; memory = mem; segments = l }) same
 
   -- a usable state stays usable
   pub refused-usable : Usable top b mem (length sg)
       → Usable top (bootstrapped top b mem sg bytes).book (bootstrapped top b mem sg bytes).memory (length (bootstrapped top b mem sg bytes).segments)
   unfolding broken
-  refused-usable u = rw (refused_is, counts_alone x b) (record { within = u.within; lent = u.lent; sound = u.sound })
+  refused-usable u = rw (refused_is, counts_alone (Err x) b) (record { within = u.within; lent = u.lent; sound = u.sound })

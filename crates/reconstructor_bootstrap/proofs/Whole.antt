@@ -49,7 +49,7 @@ pub booted_path : {a b : Booted} → a.answer ≡ b.answer → a.book ≡ b.book
 booted_path p q r s t u = λ k. record { answer = p k; book = q k; memory = r k; segment = s k; at = t k; started = u k }
 
 module _ {o : Option BootstrapError} (b : BookReconstructor) (mem : Memory) (lent : ℕ) (g : Segment) (p : Booted) where
-  settled-some : {a : BootstrapError} → o ≡ Some a → booted (refused_work a b lent g) mem ≡ unless_refused o b mem lent g p
+  settled-some : {a : BootstrapError} → o ≡ Some a → booted (refused_work (Err a) b lent g) mem ≡ unless_refused o b mem lent g p
   settled-some e = rw e
 
   settled-none : o ≡ None → p ≡ unless_refused o b mem lent g p
@@ -62,12 +62,12 @@ unfolding snapshot_refusal
 few-orders product v s line h = ltb-false v.max_orders (s.bids + s.asks) (passed _ _ _ (passed _ _ _ h).1).0
 
 module _ (b : BookReconstructor) (mem : Memory) (lent : ℕ) (g : Segment) (bytes : List ℕ) (s : L3Snapshot) where
-  pub list_full : lent ≡ b.segments → booted (refused_work ListFull b lent g) mem ≡ usable_to b mem lent g bytes s
+  pub list_full : lent ≡ b.segments → booted (refused_work (Err ListFull) b lent g) mem ≡ usable_to b mem lent g bytes s
   unfolding accept_refusal
   list_full h = settled-some b mem lent g _ (fails _ _ _ (eq-eqb lent b.segments h))
 
   module _ (h : lent ≡ b.segments → ⊥) where
-    pub snapshot-refused : (e : SnapshotError) → snapshot_refusal b.product_id b.rules s (snapshot_line s bytes) ≡ Some e → booted (refused_work (Rejected e) b lent g) mem ≡ usable_to b mem lent g bytes s
+    pub snapshot-refused : (e : SnapshotError) → snapshot_refusal b.product_id b.rules s (snapshot_line s bytes) ≡ Some e → booted (refused_work (Err (Rejected e)) b lent g) mem ≡ usable_to b mem lent g bytes s
     unfolding accept_refusal
     snapshot-refused e q = settled-some b mem lent g _ (goes_on _ _ _ _ (ne_eqb lent b.segments h) (first-fails _ _ _ e q))
 
@@ -91,12 +91,12 @@ module _ (b : BookReconstructor) (mem : Memory) (lent : ℕ) (u : Usable most_ro
 -- ---- the whole
 
 module _ (top : ℕ) (b : BookReconstructor) (mem : Memory) (lent : ℕ) (g : Segment) (bytes : List ℕ) where
-  pub unusable : (e : StateError) → book_refusal top b mem lent ≡ Some e → booted (refused_work (Unusable e) b lent g) mem ≡ bootstrapped_to top b mem lent g bytes
+  pub unusable : (e : StateError) → book_refusal top b mem lent ≡ Some e → booted (refused_work (Err (Unusable e)) b lent g) mem ≡ bootstrapped_to top b mem lent g bytes
   unfolding bootstrapped_to boot_refusal
   unusable e h = settled-some b mem lent g _ (first-fails _ _ _ e h)
 
   module _ (h : book_refusal top b mem lent ≡ None) where
-    pub not-read : (e : PieceError) → read_snapshot bytes ≡ Err e → booted (refused_work (piece_error e) b lent g) mem ≡ bootstrapped_to top b mem lent g bytes
+    pub not-read : (e : PieceError) → read_snapshot bytes ≡ Err e → booted (refused_work (Err (piece_error e)) b lent g) mem ≡ bootstrapped_to top b mem lent g bytes
     unfolding bootstrapped_to boot_refusal
     not-read e q = settled-some b mem lent g _ (first_on _ _ _ _ h (ap (λ r. piece_refusal b.product_id b.rules (lengths_with mem lent) (view_with b mem g) r bytes) q))
 

@@ -58,17 +58,18 @@ put_back sg n w =
 -- ---- refusals
 
 -- 01, bootstrap: "Refusals 10 to 14 add one to rejected_snapshots (10 included) and leave all else; a valid book stays valid."
-abbrev pub refused_book : BootstrapError → BookReconstructor → BookReconstructor
-refused_book (Unusable e) b = b
-refused_book NotAPiece b = b
-refused_book AmountOutOfRange b = b
-refused_book ListFull b = b
-refused_book (Rejected e) b = with_counts b (counted b.counts RejectedSnapshots)
+abbrev pub refused_book : Result ⊤ BootstrapError → BookReconstructor → BookReconstructor
+refused_book (Ok t) b = b
+refused_book (Err (Unusable e)) b = b
+refused_book (Err NotAPiece) b = b
+refused_book (Err AmountOutOfRange) b = b
+refused_book (Err ListFull) b = b
+refused_book (Err (Rejected e)) b = with_counts b (counted b.counts RejectedSnapshots)
 
 -- of a call that is lent so many records
-abbrev pub refused_work : BootstrapError → BookReconstructor → ℕ → Segment → Work
-refused_work e b lent g =
-    record { book = refused_book e b; answer = Err e; segment = g; at = lent; started = no_segment }
+abbrev pub refused_work : Result ⊤ BootstrapError → BookReconstructor → ℕ → Segment → Work
+refused_work a b lent g =
+    record { book = refused_book a b; answer = a; segment = g; at = lent; started = no_segment }
 
 -- ---- acceptance
 
@@ -107,12 +108,12 @@ accepted b mem g sequence line =
 
 -- a refusal, or else what is taken
 abbrev pub unless_refused : Option BootstrapError → BookReconstructor → Memory → ℕ → Segment → Booted → Booted
-unless_refused (Some e) b mem lent g p = booted (refused_work e b lent g) mem
+unless_refused (Some e) b mem lent g p = booted (refused_work (Err e) b lent g) mem
 unless_refused None b mem lent g p = p
 
 -- bytes that are no snapshot have met 4 or 5 before
 abbrev pub taken : Result L3Snapshot PieceError → BookReconstructor → Memory → ℕ → Segment → List ℕ → Booted
-taken (Err e) b mem lent g bytes = booted (refused_work (piece_error e) b lent g) mem
+taken (Err e) b mem lent g bytes = booted (refused_work (Err (piece_error e)) b lent g) mem
 taken (Ok s) b mem lent g bytes = accepted b mem g s.sequence (snapshot_line s bytes)
 
 -- the last record being g, of a list of so many; the ceiling of the limits is an argument

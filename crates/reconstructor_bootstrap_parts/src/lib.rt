@@ -11,27 +11,33 @@ use reconstructor_segments::Segment;
 use reconstructor_state::{BookReconstructor, Status};
 
 // 10 to 14 are counted, and change nothing else.
-fn refused_book(book: BookReconstructor, error: BootstrapError) -> BookReconstructor
-    ensures { result ≡ refused_book error book }
+fn refused_book(book: BookReconstructor, answer: Result<(), BootstrapError>) -> BookReconstructor
+    ensures { result ≡ refused_book answer book }
 {
-    match error {
-        BootstrapError::Unusable(_) => book,
-        BootstrapError::NotAPiece => book,
-        BootstrapError::AmountOutOfRange => book,
-        BootstrapError::ListFull => book,
-        BootstrapError::Rejected(_) => book.counting(Counter::RejectedSnapshots),
+    match answer {
+        Ok(()) => book,
+        Err(BootstrapError::Unusable(_)) => book,
+        Err(BootstrapError::NotAPiece) => book,
+        Err(BootstrapError::AmountOutOfRange) => book,
+        Err(BootstrapError::ListFull) => book,
+        Err(BootstrapError::Rejected(_)) => book.counting(Counter::RejectedSnapshots),
     }
 }
 
 // A refusal, of a call that is lent a list of `lent` records: the last one stays, and none is started.
-pub fn refused(book: BookReconstructor, error: BootstrapError, lent: usize, last: Segment) -> Work
-    ensures { result ≡ refused_work error book lent last }
+pub fn refused(
+    book: BookReconstructor,
+    answer: Result<(), BootstrapError>,
+    lent: usize,
+    last: Segment,
+) -> Work
+    ensures { result ≡ refused_work answer book lent last }
 {
-    let book = refused_book(book, error);
+    let book = refused_book(book, answer);
     let started = Segment::none();
     Work {
         book,
-        answer: Err(error),
+        answer,
         segment: last,
         at: lent,
         started,

@@ -56,11 +56,11 @@ pub fn bootstrap_usable(
     ensures { booted result (memory rows.new) ≡ usable_to book (memory rows.old) lent last bytes.now snapshot }
 {
     if lent == book.segments {
-        return refused(book, BootstrapError::ListFull, lent, last);
+        return refused(book, Err(BootstrapError::ListFull), lent, last);
     }
     let product = book.product_id;
     match validate_snapshot(product, book.rules, bytes, snapshot) {
         Ok(()) => accept(book, rows, last, bytes, snapshot),
-        Err(error) => refused(book, BootstrapError::Rejected(error), lent, last),
+        Err(error) => refused(book, Err(BootstrapError::Rejected(error)), lent, last),
     }
 }

@@ -26,11 +26,11 @@ pub fn bootstrap_under(
 {
     let checked = reconstructor_checks::own_checks(top, book, rows, lent);
     if let Err(why) = checked {
-        return refused(book, BootstrapError::Unusable(why), lent, last);
+        return refused(book, Err(BootstrapError::Unusable(why)), lent, last);
     }
     match piece_snapshots::read_snapshot(bytes) {
         Ok(snapshot) => { bootstrap_usable(book, rows, lent, last, bytes, snapshot) }
-        Err(error) => refused(book, BootstrapError::from(error), lent, last),
+        Err(error) => refused(book, Err(BootstrapError::from(error)), lent, last),
     }
 }
 

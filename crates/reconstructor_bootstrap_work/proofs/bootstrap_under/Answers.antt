@@ -1,5 +1,6 @@
 -- By what `own_checks` says, then by what the piece reads as: each refusal is the first that `bootstrapped_to` meets (`unusable`, `not-read`). Past both
 -- the state is usable under `most_rows`, as `bootstrap_usable` requires, and what that leaves is the definition's (`read`).
+use Rattle.std.specs.Prelude.{Err}
 use mathlib.Core.Path.{sym, ap, ◌∙◌}
 use Rattle.book.specs.Memory.{memory}
 use Rattle.reconstructor_checks.specs.StateChecks.{book_refusal}
@@ -28,5 +29,5 @@ returns-in-Ok c =
 pub returns-in-Err-read_snapshot : goal.returns-in-Err-read_snapshot
 returns-in-Err-read_snapshot c =
     let a = c.args in
-    ap (λ w. booted w (memory a.rows.now)) (c.refused-in-Err-read_snapshot.ensures ∙ ap (λ x. refused_work x a.book a.lent a.last) c.from.ensures)
+    ap (λ w. booted w (memory a.rows.now)) (c.refused-in-Err-read_snapshot.ensures ∙ ap (λ x. refused_work (Err x) a.book a.lent a.last) c.from.ensures)
     ∙ not-read a.top.limit a.book (memory a.rows.now) a.lent a.last a.bytes.now (said-none (book_refusal a.top.limit a.book (memory a.rows.now) a.lent) c.own_checks-checked.result c.own_checks-checked.ensures c.in_default.is) _ (sym c.read_snapshot.ensures.value ∙ c.in-Err-read_snapshot.is)
