@@ -42,10 +42,10 @@ operations =
     ∷ QueueEstimateOwn ∷ VolumeAhead ∷ Invalidation ∷ Segment ∷ []
 
 abbrev pub operation_of : ℕ → Operation
-operation_of number = get_or operations number Unknown
+operation_of number = get_or operations number (Unknown number)
 
 abbrev pub voice_of : ℕ → Voice
-voice_of number = get_or (Rust ∷ Runner ∷ []) number Model
+voice_of number = get_or (Rust ∷ Runner ∷ []) number (Model number)
 
 unfoldable pub header_of : List ℕ → Header
 header_of bytes =

@@ -28,7 +28,8 @@ pub enum Operation {
     VolumeAhead,
     Invalidation,
     Segment,
-    Unknown,
+    // Any other, with its number.
+    Unknown(u8),
 }
 
 // Whose answer is recorded.
@@ -36,7 +37,8 @@ pub enum Operation {
 pub enum Voice {
     Rust,
     Runner,
-    Model,
+    // Any other number is the model's.
+    Model(u8),
 }
 
 #[derive(Clone, Copy)]
@@ -77,7 +79,7 @@ impl From<u8> for Operation {
             15 => Operation::VolumeAhead,
             16 => Operation::Invalidation,
             17 => Operation::Segment,
-            _ => Operation::Unknown,
+            other => Operation::Unknown(other),
         }
     }
 }
@@ -89,7 +91,7 @@ impl From<u8> for Voice {
         match number {
             0 => Voice::Rust,
             1 => Voice::Runner,
-            _ => Voice::Model,
+            other => Voice::Model(other),
         }
     }
 }

@@ -82,7 +82,7 @@ impl Call<'_> {
             Operation::Segment => self.give(book, &mut [0; RECORD_WORDS], |book, out| {
                 host::pinuglaw_segment(book.state, book.segments, h.first as usize, out)
             }),
-            Operation::Unknown => println!(self.to),
+            Operation::Unknown(_) => println!(self.to),
         }
     }
 

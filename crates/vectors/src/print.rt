@@ -8,7 +8,7 @@ pub fn voice(voice: Voice) -> &'static str {
     match voice {
         Voice::Rust => "rust",
         Voice::Runner => "runner",
-        Voice::Model => "model",
+        Voice::Model(_) => "model",
     }
 }
 
@@ -32,7 +32,7 @@ pub fn name(operation: Operation) -> &'static str {
         Operation::VolumeAhead => "volume_ahead",
         Operation::Invalidation => "invalidation",
         Operation::Segment => "segment",
-        Operation::Unknown => "unknown",
+        Operation::Unknown(_) => "unknown",
     }
 }
 
