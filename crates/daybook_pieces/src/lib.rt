@@ -27,7 +27,7 @@ use reconstructor_segments::Segment;
 use reconstructor_state::BookReconstructor;
 
 // What a piece is answered with.
-#[derive(Drop)]
+#[derive(Clone, Copy)]
 pub enum Answer {
     // Its bytes are no piece of its kind, or hold a value out of range.
     Unread(PieceError),
@@ -59,7 +59,7 @@ pub struct Standing<'a> {
 }
 
 // What a piece comes to, beside how the book stands.
-#[derive(Drop)]
+#[derive(Clone, Copy)]
 pub struct Turn {
     pub answer: Answer,
     // The last segment's record; and the record that a snapshot starts, with its place, which is past the list's end where none is started.
@@ -107,7 +107,10 @@ fn index_after(
 
 // A piece that is to be a snapshot.
 fn play_snapshot(standing: &mut Standing<'_>, last: Segment, bytes: &[u8]) -> Turn
-    ensures { turned result standing.new.book (memory standing.new.rows.now) ≡ by_bootstrap_to (bootstrapped_to ceiling standing.old.book (memory standing.old.rows.now) day_segments last bytes.now) }
+    ensures played { turned result standing.new.book (memory standing.new.rows.now) ≡ by_bootstrap_to (bootstrapped_to ceiling standing.old.book (memory standing.old.rows.now) day_segments last bytes.now) }
+    ensures same_rows { standing.new.rows.ghost_name ≡ standing.old.rows.ghost_name }
+    ensures same_places { standing.new.places.ghost_name ≡ standing.old.places.ghost_name }
+    ensures same_size { length standing.new.places.now ≡ length standing.old.places.now }
 {
     match read_snapshot(bytes) {
         Err(error) => unstarted(Answer::Unread(error), last),
@@ -135,7 +138,10 @@ fn play_snapshot(standing: &mut Standing<'_>, last: Segment, bytes: &[u8]) -> Tu
 
 // A piece that is to be a message.
 fn play_message(standing: &mut Standing<'_>, last: Segment, bytes: &[u8]) -> Turn
-    ensures { turned result standing.new.book (memory standing.new.rows.now) ≡ play_message_to (read_message bytes.now) standing.old.book (memory standing.old.rows.now) last }
+    ensures played { turned result standing.new.book (memory standing.new.rows.now) ≡ play_message_to (read_message bytes.now) standing.old.book (memory standing.old.rows.now) last }
+    ensures same_rows { standing.new.rows.ghost_name ≡ standing.old.rows.ghost_name }
+    ensures same_places { standing.new.places.ghost_name ≡ standing.old.places.ghost_name }
+    ensures same_size { length standing.new.places.now ≡ length standing.old.places.now }
 {
     match read_message(bytes) {
         Err(error) => unstarted(Answer::Unread(error), last),
@@ -168,7 +174,10 @@ fn is_snapshot(bytes: &[u8]) -> bool
 // The next piece of the day.
 #[tactic(auto, unfolding(crate::specs::ByValue::played_to))]
 pub fn play(standing: &mut Standing<'_>, last: Segment, bytes: &[u8]) -> Turn
-    ensures { turned result standing.new.book (memory standing.new.rows.now) ≡ played_to standing.old.book (memory standing.old.rows.now) last bytes.now }
+    ensures played { turned result standing.new.book (memory standing.new.rows.now) ≡ played_to standing.old.book (memory standing.old.rows.now) last bytes.now }
+    ensures same_rows { standing.new.rows.ghost_name ≡ standing.old.rows.ghost_name }
+    ensures same_places { standing.new.places.ghost_name ≡ standing.old.places.ghost_name }
+    ensures same_size { length standing.new.places.now ≡ length standing.old.places.now }
 {
     if is_snapshot(bytes) {
         return play_snapshot(standing, last, bytes);

@@ -12,7 +12,7 @@ use message::{ChangeReason, DoneReason, L3Side, OrderId, ProductId};
 pub const MESSAGE_WORDS: usize = 21;
 
 // Why bytes are turned away.
-#[derive(Drop)]
+#[derive(Clone, Copy)]
 pub enum PieceError {
     // The bytes are not a piece of that kind.
     NotAPiece,

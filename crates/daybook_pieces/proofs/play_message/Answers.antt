@@ -10,8 +10,8 @@ invariant_of-standing c =
     let w = c.apply_in_run-run in
     record { plays = message-plays s.book s.rows.now _ c.args.last _ w.result.work s.plays.usable w.ensures.applies _ _ w.ensures.indexes }
 
-pub returns-in-Ok : goal.returns-in-Ok
-returns-in-Ok c =
+pub returns-in-Ok-clause-played : goal.returns-in-Ok-clause-played
+returns-in-Ok-clause-played c =
     let s = c.args.standing.now in
     let w = c.apply_in_run-run in
     rw (sym c.read_message.ensures.value ∙ c.in-Ok.is, c.unstarted-in-Ok.ensures) (message-played s.book s.rows.now _ c.args.last _ w.result.work s.plays.usable w.ensures.applies)

@@ -22,12 +22,12 @@ invariant_of-standing c =
     let few = s.plays.index.few in
     record { plays = snapshot-plays s.book s.rows.now _ c.args.last c.args.bytes.now _ c.bootstrap_usable-work.result s.plays.usable (sym c.read_snapshot.ensures.value ∙ c.in-Ok.is) c.bootstrap_usable-work.ensures _ _ (omega (arith, c.index_after-bounds.auto.places)) c.index_after-bounds.ensures }
 
-pub returns-in-Err : goal.returns-in-Err
-returns-in-Err c =
+pub returns-in-Err-clause-played : goal.returns-in-Err-clause-played
+returns-in-Err-clause-played c =
     let s = c.args.standing.now in
     rw c.unstarted.ensures (unread-played s.book (memory s.rows.now) c.args.last c.args.bytes.now _ s.plays.usable (sym c.read_snapshot.ensures.value ∙ c.in-Err.is))
 
-pub returns-in-Ok : goal.returns-in-Ok
-returns-in-Ok c =
+pub returns-in-Ok-clause-played : goal.returns-in-Ok-clause-played
+returns-in-Ok-clause-played c =
     let s = c.args.standing.now in
     snapshot-played s.book s.rows.now _ c.args.last c.args.bytes.now _ c.bootstrap_usable-work.result s.plays.usable (sym c.read_snapshot.ensures.value ∙ c.in-Ok.is) c.bootstrap_usable-work.ensures

@@ -23,7 +23,7 @@ returns-then-not-goes_on-clause-replays c =
     let v = t.new.standing in
     let j = c.if-turn-lt-DAY_SEGMENTS in
     let h = rw c.piece_count-i-end.ensures at c.loop-i-test.true in
-    let e = rw c.piece.ensures at t.ensures in
+    let e = rw c.piece.ensures at t.ensures.played in
     let k : Keeps l.segments s.book.segments t.result j.segments j.last = elim j.branch [ then-turn-lt-DAY_SEGMENTS w ↦ filed w.if-turn-lt-DAY_SEGMENTS.true (w.segments-is ∙ w.filed-kept.ensures) w.last-is | else-turn-lt-DAY_SEGMENTS w ↦ apart w.if-turn-lt-DAY_SEGMENTS.false w.segments-is w.last-is ] in
     let a = after s.book s.rows.now v.rows.now s.places.now (piece_at f l.i) s.bounds l.segments j.segments l.last j.last t.result v.book s.plays l.invariant.full l.invariant.none e k in
     c.ended.ensures ∙ rw c.number-number.ensures (loop-stops f s.rows.now s.book l.last l.segments l.i l.invariant v.rows.now t.result v.book j.segments j.last h a (rw c.number-number.ensures at (sym c.goes_on.ensures ∙ c.if-not-goes_on.true)))
@@ -37,7 +37,7 @@ loop-i-preserved c =
     let v = t.new.standing in
     let j = c.if-turn-lt-DAY_SEGMENTS in
     let h = rw c.piece_count-i-end.ensures at c.loop-i-test.true in
-    let e = rw c.piece.ensures at t.ensures in
+    let e = rw c.piece.ensures at t.ensures.played in
     let k : Keeps l.segments s.book.segments t.result j.segments j.last = elim j.branch [ then-turn-lt-DAY_SEGMENTS w ↦ filed w.if-turn-lt-DAY_SEGMENTS.true (w.segments-is ∙ w.filed-kept.ensures) w.last-is | else-turn-lt-DAY_SEGMENTS w ↦ apart w.if-turn-lt-DAY_SEGMENTS.false w.segments-is w.last-is ] in
     let a = after s.book s.rows.now v.rows.now s.places.now (piece_at f l.i) s.bounds l.segments j.segments l.last j.last t.result v.book s.plays l.invariant.full l.invariant.none e k in
     loop-next f s.rows.now s.book l.last l.segments l.i l.invariant v.rows.now t.result v.book j.segments j.last h a (rw c.number-number.ensures at (sym c.goes_on.ensures ∙ c.if-not-goes_on.false))
