@@ -1,9 +1,11 @@
 // Number 3, as far as the rows go, in expected linear time; and what an audit of the book answers.
 #![tactic(auto)]
 
-ghost use Rattle.std.specs.Prelude.{◌≡◌, ◌||◌};
+ghost use Rattle.std.specs.Prelude.{◌≡◌, ◌||◌, cond, max, min};
 ghost use Rattle.book.specs.Line.{crossed};
-ghost use Rattle.book.specs.Rows.{line_of};
+ghost use Rattle.message.specs.declared.L3Side.TheVariants.{Buy, Sell};
+ghost use Rattle.message.specs.Same.{same_side};
+ghost use Rattle.book.specs.Rows.{side_of, line_of};
 ghost use Rattle.book.specs.Lending.{rows_in};
 ghost use Rattle.book.specs.Broken.{out_of_range, row_broken, some_row_broken, words_broken};
 
@@ -39,6 +41,29 @@ fn row_broken(o: Resting) -> bool
     (o.kind > 3) | (out_of_range(o.price) | (out_of_range(o.remaining) | flag_broken))
 }
 
+// The highest price of a buy so far, 0 for none, with one row more. A sell counts as 0, by a choice between two values and not between two paths: sides come
+// in no order, and a path that is guessed wrong costs more than the row.
+fn raised(bid: u64, o: Resting) -> u64
+    ensures { result ≡ cond (same_side (side_of o.kind) Buy) (max bid o.price) bid }
+{
+    let price = match book::side_of(o.kind) {
+        L3Side::Buy => o.price,
+        L3Side::Sell => 0,
+    };
+    bid.max(price)
+}
+
+// The lowest price of a sell so far, one above all for none, with one row more.
+fn lowered(ask: u64, o: Resting) -> u64
+    ensures { result ≡ cond (same_side (side_of o.kind) Sell) (min ask o.price) ask }
+{
+    let price = match book::side_of(o.kind) {
+        L3Side::Buy => u64::MAX,
+        L3Side::Sell => o.price,
+    };
+    ask.min(price)
+}
+
 // Whether a row breaks a rule by itself, or the best buy is at or above the best sell: one pass.
 fn screened(rows: LentRows<'_>) -> bool
     ensures { result ≡ (some_row_broken (rows_in rows.entry) || crossed (line_of (rows_in rows.entry))) }
@@ -50,10 +75,8 @@ fn screened(rows: LentRows<'_>) -> bool
         if row_broken(o) {
             return true;
         }
-        match book::side_of(o.kind) {
-            L3Side::Buy => bid = bid.max(o.price),
-            L3Side::Sell => ask = ask.min(o.price),
-        }
+        bid = raised(bid, o);
+        ask = lowered(ask, o);
     }
     ask <= bid
 }

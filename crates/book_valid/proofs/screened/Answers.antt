@@ -22,19 +22,11 @@ returns-then-row_broken c =
     rw (rows_prev c.args.rows.words.now c.args.rows.count c.loop-i.i (c.loop-i.i - 1) c.get-o.result (omega arith) (omega arith) c.get-o.ensures, ← c.row_broken.ensures, c.if-row_broken.true) in
     rw (broken-from c.args.rows.words.now c.args.rows.count (c.loop-i.i - 1) (omega arith) here)
 
-pub loop-i-preserved-in-Buy : goal.loop-i-preserved-in-Buy
-loop-i-preserved-in-Buy c =
-    let next = rows_prev c.args.rows.words.now c.args.rows.count c.loop-i.i (c.loop-i.i - 1) c.get-o.result (omega arith) (omega arith) c.get-o.ensures in (
-      rw (next, c.max-bid.ensures, c.loop-i.invariant.0, ← c.side_of.ensures, c.in-Buy.is),
-      rw (next, c.loop-i.invariant.1, ← c.side_of.ensures, c.in-Buy.is),
-      rw (next, ← c.row_broken.ensures, c.if-row_broken.false) c.loop-i.invariant.2,
-    )
-
 pub loop-i-preserved : goal.loop-i-preserved
 loop-i-preserved c =
     let next = rows_prev c.args.rows.words.now c.args.rows.count c.loop-i.i (c.loop-i.i - 1) c.get-o.result (omega arith) (omega arith) c.get-o.ensures in (
-      rw (next, c.loop-i.invariant.0, ← c.side_of.ensures, c.in-Sell.is),
-      rw (next, c.min-ask.ensures, c.loop-i.invariant.1, ← c.side_of.ensures, c.in-Sell.is),
+      rw (next, c.raised-bid.ensures, c.loop-i.invariant.0),
+      rw (next, c.lowered-ask.ensures, c.loop-i.invariant.1),
       rw (next, ← c.row_broken.ensures, c.if-row_broken.false) c.loop-i.invariant.2,
     )
 
