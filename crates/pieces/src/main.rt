@@ -2,10 +2,10 @@
 // a line of the message reader (m) and a line of the snapshot reader (s), the number of 01's table first and then the fields.
 #![tactic(auto)]
 
-ghost use Rattle.std.specs.Prelude.{◌≤◌};
+ghost use Rattle.std.specs.Prelude.{◌≡◌, ◌≤◌, length, IfOk};
 
 use piece::MESSAGE_WORDS;
-use std::io::{self, Print, Read, Stdout};
+use std::io::{self, Print, Read, Stdin, Stdout};
 
 // The word of a message where its event's fields start.
 const FIELDS_AT: usize = 5;
@@ -24,7 +24,7 @@ const ORDER_BYTES: usize = 32;
 const LENGTH_BYTES: usize = 4;
 
 // The most input that is read: the recorded pieces have less.
-const INPUT_BYTES: u64 = 262144;
+const INPUT_BYTES: usize = 262144;
 
 // How many words the fields of an event have, by its kind.
 fn field_count(kind: u64) -> usize
@@ -119,8 +119,30 @@ fn show_all(to: Stdout, input: &[u8]) -> io::Result<()> {
     Ok(())
 }
 
+// Zeros, where the input goes: it needs no heap. The `ensures` gives only the length, which lending the array as a slice needs.
+fn buffer() -> [u8; INPUT_BYTES]
+    ensures { 262144 ≡ length result }
+{
+    [0; INPUT_BYTES]
+}
+
+// Reads the input to its end, or as much of it as there is room for; one read takes all that has come.
+fn read_input(mut from: Stdin, input: &mut [u8]) -> io::Result<usize>
+    ensures { IfOk result (λ n. n ≤ length input.new) }
+{
+    let mut done: usize = 0;
+    while done < input.len() {
+        let n = from.read(&mut input[done..])?;
+        if n == 0 {
+            break;
+        }
+        done += n;
+    }
+    Ok(done)
+}
+
 fn main(rt: HostRuntime) -> io::Result<()> {
-    let mut input = Vec::new(rt.alloc());
-    rt.stdin().take(INPUT_BYTES).read_to_end(&mut input)?;
-    show_all(rt.stdout(), &input)
+    let mut input = buffer();
+    let n = read_input(rt.stdin(), &mut input)?;
+    show_all(rt.stdout(), &input[..n])
 }

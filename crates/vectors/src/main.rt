@@ -3,6 +3,8 @@
 // in `stdin` and `stdout` beside this folder were made from the Rust by `oracle vectors` (tools/oracle).
 #![tactic(auto)]
 
+ghost use Rattle.std.specs.Prelude.{◌≡◌, ◌≤◌, length, IfOk};
+
 mod calls;
 mod memory;
 mod print;
@@ -11,10 +13,10 @@ use crate::calls::Call;
 use crate::memory::{Book, ROWS, SEGMENTS};
 use host_words::STATE_WORDS;
 use recorded::{HEADER_BYTES, read_header};
-use std::io::{self, Read, Stdout};
+use std::io::{self, Read, Stdin, Stdout};
 
 // The most input that is read: the recorded calls have less.
-const INPUT_BYTES: u64 = 524288;
+const INPUT_BYTES: usize = 524288;
 
 // Every call of the input, up to one that it does not hold whole. A call is lent as much of the memory as its header says.
 fn replay(to: Stdout, input: &[u8]) -> io::Result<()> {
@@ -45,8 +47,30 @@ fn replay(to: Stdout, input: &[u8]) -> io::Result<()> {
     Ok(())
 }
 
+// Zeros, where the input goes: it needs no heap. The `ensures` gives only the length, which lending the array as a slice needs.
+fn buffer() -> [u8; INPUT_BYTES]
+    ensures { 524288 ≡ length result }
+{
+    [0; INPUT_BYTES]
+}
+
+// Reads the input to its end, or as much of it as there is room for; one read takes all that has come.
+fn read_input(mut from: Stdin, input: &mut [u8]) -> io::Result<usize>
+    ensures { IfOk result (λ n. n ≤ length input.new) }
+{
+    let mut done: usize = 0;
+    while done < input.len() {
+        let n = from.read(&mut input[done..])?;
+        if n == 0 {
+            break;
+        }
+        done += n;
+    }
+    Ok(done)
+}
+
 fn main(rt: HostRuntime) -> io::Result<()> {
-    let mut input = Vec::new(rt.alloc());
-    rt.stdin().take(INPUT_BYTES).read_to_end(&mut input)?;
-    replay(rt.stdout(), &input)
+    let mut input = buffer();
+    let n = read_input(rt.stdin(), &mut input)?;
+    replay(rt.stdout(), &input[..n])
 }
