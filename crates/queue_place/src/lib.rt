@@ -27,14 +27,18 @@ pub fn place_unknown(rule: SizeDecrease, o: Resting) -> bool
     (o.kind < 2) | ((o.decreased != 0) & loses_place(rule))
 }
 
-// The row of an id.
+// The row of an id. A loop that gives the row itself: `book_search::find`, with the row then read at its place, takes a quarter longer for the entries of an
+// ahead-list.
 pub fn resting(rows: LentRows<'_>, id: OrderId) -> Option<Resting>
     ensures { result ≡ row_with id (rows_in rows.entry) }
 {
-    match book_search::find(rows, id) {
-        Some(i) => Some(rows.get(i)),
-        None => None,
+    for i in 0..rows.count {
+        let o = rows.get(i);
+        if book_search::has_id(o, id) {
+            return Some(o);
+        }
     }
+    None
 }
 
 // The row of an id, if it entered there: an id that is used again names another order.

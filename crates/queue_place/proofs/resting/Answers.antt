@@ -1,14 +1,18 @@
-use mathlib.Core.Path.{◌∙◌, sym}
+-- A row with the id is the answer; one without is passed by, and at the end none is left.
+use mathlib.Core.Path.{sym}
 use native.Mathlib.Omega.{arith}
-use Rattle.book.proofs.Stored.{found_at}
-use Rattle.queue.proofs.Ahead.{row-found, row_missed}
+use Rattle.book.proofs.Rows.{rows_next, rows-done}
 use Rattle.queue_place.proofs.resting.Goals as goal
 
-pub get-requires : goal.get-requires
-get-requires c = let f = found_at c.args.rows.words.now c.args.rows.count c.args.id _ (sym c.find.ensures ∙ c.in-Some.is) in f.inside
+pub returns-then-has_id : goal.returns-then-has_id
+returns-then-has_id c =
+    let next = rows_next c.args.rows.words.now c.args.rows.count c.loop-i.i c.get-o.result (omega arith) c.get-o.ensures in
+    sym (rw (c.loop-i.invariant, next, ← c.has_id.ensures, c.if-has_id.true))
 
-pub returns-in-Some : goal.returns-in-Some
-returns-in-Some c = rw c.get.ensures (sym (row-found c.args.rows.words.now c.args.rows.count c.args.id _ c.find.ensures _ c.in-Some.is))
+pub loop-i-preserved : goal.loop-i-preserved
+loop-i-preserved c =
+    let next = rows_next c.args.rows.words.now c.args.rows.count c.loop-i.i c.get-o.result (omega arith) c.get-o.ensures in
+    rw (c.loop-i.invariant, next, ← c.has_id.ensures, c.if-has_id.false)
 
-pub returns-in-None : goal.returns-in-None
-returns-in-None c = sym (row_missed c.args.rows.words.now c.args.rows.count c.args.id _ c.find.ensures c.in-None.is)
+pub returns : goal.returns
+returns c = sym (rw (c.loop-i.invariant, rows-done c.args.rows.words.now c.args.rows.count c.loop-i.i (omega arith)))
